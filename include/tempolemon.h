@@ -173,7 +173,7 @@ uint8_t tempolemon_answer(tempolemon_handle *handle, uint8_t *answers, size_t ro
  *   NOT_LIVE   the handle has no boot; this is tested first
  *   BAD_CPU    the zone has no such CPU; this is tested second
  *   BAD_FRAME  the zone has no such frame (of calls that name one)
- *   BAD_GROUP  no group has such a number (tempolemon_alloc and tempolemon_alloc_dirty)
+ *   BAD_GROUP  no group has such a number (tempolemon_alloc, tempolemon_alloc_dirty and tempolemon_alloc_pinned)
  *
  * None of them takes memory.
  */
@@ -209,6 +209,13 @@ uint8_t tempolemon_alloc(tempolemon_handle *handle, uint32_t cpu, uint32_t group
  * dirty, whatever its order. A script does the same by two commands. */
 uint8_t tempolemon_alloc_dirty(tempolemon_handle *handle, uint32_t cpu, uint32_t group, uint32_t order,
                                tempolemon_result *out);
+
+/* Allocates a block of order 1 to 10 and pins it, as tempolemon_get: FRAME with the first frame of a unit that is kept
+ * and has a reference of this CPU. Before all but NOT_LIVE and BAD_CPU come 9 PinsFull, if this CPU's pins and its last
+ * puts that aren't settled are 256 together, and then 19 BadOrder. Nothing was done then. If the pin weren't held, the
+ * block would be released again: 21 NotPinned. A script does the same by an alloc and a get. */
+uint8_t tempolemon_alloc_pinned(tempolemon_handle *handle, uint32_t cpu, uint32_t group, uint32_t order,
+                                tempolemon_result *out);
 
 /* Releases the unit that this frame heads, or a fresh frame of the CPU: LISTED, RETURNED, or LEFT with the references. */
 uint8_t tempolemon_release(tempolemon_handle *handle, uint32_t cpu, uint32_t frame, tempolemon_result *out);

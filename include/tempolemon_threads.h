@@ -96,6 +96,16 @@ uint8_t tempolemon_try_release(tempolemon_cpu_part *part, uint32_t frame, tempol
 /* These always take the lock. tempolemon_try_alloc_dirty allocates a unit and notes it as dirty before another thread gets
  * the lock: when it is DONE, the unit is kept and dirty, whatever its order. */
 uint8_t tempolemon_try_alloc_dirty(tempolemon_cpu_part *part, uint32_t group, uint32_t order, tempolemon_result *out);
+
+/* Allocates a block of order 1 to 10 and pins it before another thread gets the lock: when it is DONE, the unit is
+ * kept, and this CPU has a reference on it. FRAME with its first frame, or a refusal:
+ *
+ *   9 PinsFull    the CPU's pins and its last puts that aren't settled are 256 together. This comes first
+ *   19 BadOrder   the order is 0 or above 10. This comes second
+ *   21 NotPinned  other CPUs' gets of that frame came between, and the block was released again: try again
+ *
+ * Of these, 9 and 19 do nothing. All others, BAD_GROUP and BUSY are those of tempolemon_try_alloc. */
+uint8_t tempolemon_try_alloc_pinned(tempolemon_cpu_part *part, uint32_t group, uint32_t order, tempolemon_result *out);
 uint8_t tempolemon_try_mkdir(tempolemon_cpu_part *part, const uint8_t *path, size_t length, tempolemon_result *out);
 uint8_t tempolemon_try_rmdir(tempolemon_cpu_part *part, const uint8_t *path, size_t length, tempolemon_result *out);
 uint8_t tempolemon_try_write(tempolemon_cpu_part *part, const uint8_t *path, size_t length, const uint8_t *file,
@@ -201,6 +211,10 @@ static inline uint8_t tempolemon_on_alloc(tempolemon_cpu *cpu, uint32_t group, u
 static inline uint8_t tempolemon_on_alloc_dirty(tempolemon_cpu *cpu, uint32_t group, uint32_t order,
                                                 tempolemon_result *out) {
     TEMPOLEMON_CALL(cpu, tempolemon_try_alloc_dirty(&cpu->part, group, order, out));
+}
+static inline uint8_t tempolemon_on_alloc_pinned(tempolemon_cpu *cpu, uint32_t group, uint32_t order,
+                                                 tempolemon_result *out) {
+    TEMPOLEMON_CALL(cpu, tempolemon_try_alloc_pinned(&cpu->part, group, order, out));
 }
 static inline uint8_t tempolemon_on_release(tempolemon_cpu *cpu, uint32_t frame, tempolemon_result *out) {
     TEMPOLEMON_CALL(cpu, tempolemon_try_release(&cpu->part, frame, out));

@@ -49,6 +49,9 @@ class Calls(unittest.TestCase):
         self.refuses(tempolemon.Zero, cpu.get, unit)
         cpu.settle()
         self.assertEqual(cpu.release(cpu.alloc_dirty(a, 1)), (Kind.RETURNED, 0))
+        with cpu.alloc_pinned(a, 1) as pin:
+            self.assertEqual(cpu.release(pin.frame), (Kind.LEFT, 1))
+        self.refuses(tempolemon.BadOrder, cpu.alloc_pinned, a, 0)
         for text in cpu.show(), cpu.blocks(), cpu.stock():
             self.assertTrue(text.endswith("\n"))
         self.assertEqual(cpu.units("/a"), "none\n")

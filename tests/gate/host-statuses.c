@@ -83,6 +83,25 @@ static void live(void) {
     is("a get of it", tempolemon_get(&host, 2, (uint32_t)result.number, &result), TEMPOLEMON_DONE);
     is("its kind", result.kind, TEMPOLEMON_HELD);
     is("a dirty alloc of order 11", tempolemon_alloc_dirty(&host, 1, 1, 11, &result), 19);
+    uint32_t pinned[2];
+    for (int at = 0; at < 2; at++) {
+        is("a pinned alloc", tempolemon_alloc_pinned(&host, 1, 1, 1, &result), TEMPOLEMON_DONE);
+        is("its kind", result.kind, TEMPOLEMON_FRAME);
+        pinned[at] = (uint32_t)result.number;
+    }
+    is("a pinned alloc at CPU 3", tempolemon_alloc_pinned(&host, 3, 64, 0, &result), TEMPOLEMON_BAD_CPU);
+    is("a pinned alloc of order 0", tempolemon_alloc_pinned(&host, 1, 64, 0, &result), 19);
+    is("a pinned alloc for group 64", tempolemon_alloc_pinned(&host, 1, 64, 1, &result), TEMPOLEMON_BAD_GROUP);
+    for (int pins = 2; pins < 256; pins++) {
+        is("a get", tempolemon_get(&host, 1, pinned[pins % 2], &result), TEMPOLEMON_DONE);
+        is("its kind", result.kind, TEMPOLEMON_HELD);
+    }
+    is("pin 257", tempolemon_alloc_pinned(&host, 1, 1, 0, &result), 9);
+    is("its kind", result.kind, TEMPOLEMON_REFUSED);
+    for (int pins = 0; pins < 256; pins++) {
+        is("a put", tempolemon_put(&host, 1, pinned[pins % 2], &result), TEMPOLEMON_DONE);
+        is("its kind", result.kind, TEMPOLEMON_LEFT);
+    }
     is("an alloc", tempolemon_alloc(&host, 1, 1, 0, &result), TEMPOLEMON_DONE);
     const uint32_t frame = (uint32_t)result.number;
     is("a get of a fresh frame", tempolemon_get(&host, 2, frame, &result), TEMPOLEMON_DONE);

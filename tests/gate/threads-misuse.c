@@ -23,7 +23,7 @@ static void all_are(const char *what, tempolemon_cpu *cpu, uint8_t wanted) {
     const uint8_t given[] = {
         tempolemon_on_get(cpu, 0, &result), tempolemon_on_put(cpu, 0, &result),
         tempolemon_on_alloc(cpu, 0, 0, &result), tempolemon_on_alloc(cpu, 0, 1, &result),
-        tempolemon_on_alloc_dirty(cpu, 0, 0, &result),
+        tempolemon_on_alloc_dirty(cpu, 0, 0, &result), tempolemon_on_alloc_pinned(cpu, 0, 1, &result),
         tempolemon_on_release(cpu, 0, &result), tempolemon_on_mkdir(cpu, "/x", 2, &result),
         tempolemon_on_rmdir(cpu, "/x", 2, &result), tempolemon_on_write(cpu, "/x", 2, "memory.max", 10, "1", 1, &result),
         tempolemon_on_read(cpu, "/x", 2, "memory.max", 10, text, sizeof text, &result),
@@ -82,6 +82,7 @@ static void refusals(void) {
     is("group 64", tempolemon_on_alloc(&one, 64, 0, &result), TEMPOLEMON_BAD_GROUP);
     is("group 1, dirty", tempolemon_on_alloc_dirty(&one, 1, 0, &result), TEMPOLEMON_BAD_GROUP);
     is("group 64, dirty", tempolemon_on_alloc_dirty(&one, 64, 2, &result), TEMPOLEMON_BAD_GROUP);
+    is("group 1, pinned", tempolemon_on_alloc_pinned(&one, 1, 1, &result), TEMPOLEMON_BAD_GROUP);
     is("the usage of group 1", tempolemon_on_usage(&one, 1, &result), TEMPOLEMON_BAD_GROUP);
     is("the limit of group 64", tempolemon_on_max(&one, 64, &result), TEMPOLEMON_BAD_GROUP);
     is("a limit of group 63", tempolemon_on_set_max(&one, 63, 1, &result), TEMPOLEMON_BAD_GROUP);
@@ -139,6 +140,32 @@ static void refusals(void) {
     }
     is("order 11, dirty", tempolemon_on_alloc_dirty(&one, group, 11, &result), 19);
 
+    /* a block that is pinned at once isn't reclaimed; with 256 pins there are no more */
+    uint32_t pinned[2];
+    for (int at = 0; at < 2; at++) {
+        is("alloc_pinned", tempolemon_on_alloc_pinned(&one, group, 1, &result), TEMPOLEMON_DONE);
+        is("its kind", result.kind, TEMPOLEMON_FRAME);
+        pinned[at] = (uint32_t)result.number;
+    }
+    is("a reclaim", tempolemon_on_reclaim(&one, group, 64, &result), 17);
+    is("order 0, pinned", tempolemon_on_alloc_pinned(&one, group, 0, &result), 19);
+    is("order 11, pinned", tempolemon_on_alloc_pinned(&one, group, 11, &result), 19);
+    for (int pins = 2; pins < 256; pins++) {
+        is("get", tempolemon_on_get(&one, pinned[pins % 2], &result), TEMPOLEMON_DONE);
+        is("held", result.kind, TEMPOLEMON_HELD);
+    }
+    look(&one, before);
+    is("pin 257", tempolemon_on_alloc_pinned(&one, group, 1, &result), 9);
+    is("its kind", result.kind, TEMPOLEMON_REFUSED);
+    is("pin 257, order 0", tempolemon_on_alloc_pinned(&one, group, 0, &result), 9);
+    look(&one, after);
+    is("what these calls changed", (unsigned long)strcmp(before, after), 0);
+    for (int pins = 0; pins < 256; pins++) {
+        is("put", tempolemon_on_put(&one, pinned[pins % 2], &result), TEMPOLEMON_DONE);
+        is("left", result.kind, TEMPOLEMON_LEFT);
+    }
+    for (int at = 0; at < 2; at++) is("release", tempolemon_on_release(&one, pinned[at], &result), TEMPOLEMON_DONE);
+
     /* a returned CPU keeps its pins: whoever takes it next puts them */
     is("alloc", tempolemon_on_alloc(&one, group, 0, &result), TEMPOLEMON_DONE);
     const uint32_t frame = (uint32_t)result.number;
@@ -195,6 +222,8 @@ static void free_lock(void) {
         FREE_AFTER(tempolemon_try_alloc(&one.part, 40, 0, &result));
         FREE_AFTER(tempolemon_try_alloc_dirty(&one.part, 1, 0, &result));
         FREE_AFTER(tempolemon_try_alloc_dirty(&one.part, 40, 0, &result));
+        FREE_AFTER(tempolemon_try_alloc_pinned(&one.part, 1, 1, &result));
+        FREE_AFTER(tempolemon_try_alloc_pinned(&one.part, 40, 1, &result));
         FREE_AFTER(tempolemon_try_usage(&one.part, 1, &result));
         FREE_AFTER(tempolemon_try_usage(&one.part, 40, &result));
         FREE_AFTER(tempolemon_try_set_max(&one.part, 1, 16, &result));

@@ -202,6 +202,14 @@ class Cpu:
         """
         return self._call(raw.library.tempolemon_try_alloc_dirty, _word(group), _word(order))[1]
 
+    def alloc_pinned(self, group: int, order: int) -> "Pin":
+        """Allocates a block of order 1 to 10 and pins it before another thread gets the lock.
+
+        Raises PinsFull first, then BadOrder, both before anything is done; NotPinned if other CPUs' gets of the frame
+        came between, and the block was released again; and as alloc does.
+        """
+        return Pin(self, self._call(raw.library.tempolemon_try_alloc_pinned, _word(group), _word(order))[1])
+
     def release(self, frame: int) -> Result:
         """Releases the unit that this frame heads, or a fresh frame of the CPU: LISTED, RETURNED, or LEFT with references.
 

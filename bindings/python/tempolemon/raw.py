@@ -42,6 +42,7 @@ _FORMS = {
     "zone_boot": (POINTER(Sizes),), "zone_end": (POINTER(Report),), "try_take": (c_uint32, POINTER(Handle)),
     "try_return": (), "cpu_get": (c_uint32, *_OUT), "cpu_put": (c_uint32, *_OUT),
     "try_alloc": (c_uint32, c_uint32, *_OUT), "try_alloc_dirty": (c_uint32, c_uint32, *_OUT),
+    "try_alloc_pinned": (c_uint32, c_uint32, *_OUT),
     "try_release": (c_uint32, *_OUT), "try_touch": (c_uint32, *_OUT), "try_dirty": (c_uint32, *_OUT),
     "try_clean": (c_uint32, *_OUT), "try_owner": (c_uint32, *_OUT), "try_settle": _OUT,
     "try_mkdir": (*_TEXT, *_OUT), "try_rmdir": (*_TEXT, *_OUT), "try_write": (*_TEXT * 3, *_OUT),

@@ -317,6 +317,16 @@ impl Cpu<'_> {
         Ok(Frame(taken.number as u32))
     }
 
+    /// Allocates a block of order 1 to 10 and pins it before another thread gets the lock. It takes the lock.
+    ///
+    /// Errors: `PinsFull` first, then `BadOrder`, both before anything is done; `NotPinned` if other CPUs' gets of the
+    /// frame came between, and the block was released again; those of [`Cpu::alloc`].
+    #[inline]
+    pub fn alloc_pinned(&self, group: Group, order: u32) -> Result<Pin<'_>, Error> {
+        let taken = self.call(|cpu, out| unsafe { raw::tempolemon_try_alloc_pinned(cpu, group.0, order, out) })?;
+        Ok(Pin { cpu: self, frame: Frame(taken.number as u32) })
+    }
+
     /// Releases the unit that this frame heads, or a fresh frame of the CPU, which alone takes no lock.
     ///
     /// A kill frees all units of its group, and another group may get their frames. So if limits are lowered or groups are

@@ -51,6 +51,7 @@ extern "C" {
     pub fn tempolemon_cpu_put(part: *mut Handle, frame: u32, out: *mut TypedResult) -> u8;
     pub fn tempolemon_try_alloc(part: *mut Handle, group: u32, order: u32, out: *mut TypedResult) -> u8;
     pub fn tempolemon_try_alloc_dirty(part: *mut Handle, group: u32, order: u32, out: *mut TypedResult) -> u8;
+    pub fn tempolemon_try_alloc_pinned(part: *mut Handle, group: u32, order: u32, out: *mut TypedResult) -> u8;
     pub fn tempolemon_try_release(part: *mut Handle, frame: u32, out: *mut TypedResult) -> u8;
     pub fn tempolemon_try_touch(part: *mut Handle, frame: u32, out: *mut TypedResult) -> u8;
     pub fn tempolemon_try_dirty(part: *mut Handle, frame: u32, out: *mut TypedResult) -> u8;

@@ -39,6 +39,10 @@ fn each_call_is_answered() -> Result<(), Error> {
     cpu.settle()?;
     let unit = cpu.alloc_dirty(a, 1)?;
     assert_eq!(cpu.release(unit)?, Released::Returned);
+    let pin = cpu.alloc_pinned(a, 1)?;
+    assert_eq!(cpu.release(pin.frame())?, Released::Left(1));
+    assert_eq!(pin.put()?, 0);
+    assert_eq!(cpu.alloc_pinned(a, 0).err(), Some(Error::BadOrder));
     for text in [cpu.show()?, cpu.blocks()?, cpu.stock()?] {
         assert!(text.ends_with('\n'), "{text}");
     }

@@ -18,7 +18,7 @@ struct Pins<'a, N: BootName> {
     tables: &'a Tables<N>,
     cpu: &'a mut Cpu<N>,
     frame: Frame,
-    ghost inside: { frame < N.frames.frames },
+    ghost inside: { frame < N.table.frames },
 }
 
 impl<'a, N: BootName, R> Subject<R> for Pins<'a, N> {
@@ -56,7 +56,7 @@ fn measure_on<N: BootName, R: Wait + Print + Clock>(
 
 // Starts the boot, measures the unit, and shuts down.
 fn live<N: BootName, R: Wait + Print + Clock + Alloc<A = Global>>(rt: &R, boot: Boot) -> Result<f64>
-    requires { boot.frames ≡ N.frames }
+    requires { boot.table ≡ N.table }
 {
     let (system, mut cpus) = boot.start::<N>(rt.alloc())?;
     let unit = measure_on(rt, &system, &mut cpus);

@@ -51,7 +51,7 @@ fn visit_here<N: BootName, R: Wait>(
     cmd: &LockedCommand<'_>,
     reply: &mut ReplyWithText,
 )
-    requires { IsOfZone N.frames cmd.now }
+    requires { IsOfZone N.table cmd.now }
 {
     system.visit_into(rt, cpu, cmd, &NoGate, reply);
 }
@@ -63,7 +63,7 @@ fn visit<N: BootName, R: Wait>(
     cpu: &mut Cpu<N>,
     cmd: &LockedCommand<'_>,
 ) -> ReplyWithText
-    requires { IsOfZone N.frames cmd.now }
+    requires { IsOfZone N.table cmd.now }
 {
     let mut reply = ReplyWithText::Done;
     visit_here(rt, system, cpu, cmd, &mut reply);
@@ -78,7 +78,7 @@ fn visit_into<N: BootName, R: Wait>(
     cmd: &LockedCommand<'_>,
     reply: &mut ReplyWithText,
 )
-    requires { IsOfZone N.frames cmd.now }
+    requires { IsOfZone N.table cmd.now }
 {
     visit_here(rt, system, cpu, cmd, reply);
 }
@@ -276,7 +276,7 @@ fn print_on<N: BootName + Send + Sync, R: Threads + Wait + Print + Clock + Sync>
 
 /// Shuts the system down, in which no CPU has a pin.
 pub fn end<N: BootName, R: Wait>(rt: &R, mut system: System<N>, mut cpus: Vec<Cpu<N>>)
-    requires { length cpus.items ≡ N.frames.cpus }
+    requires { length cpus.items ≡ N.table.cpus }
 {
     for _ in rt.forever() {
         match system.shutdown(cpus) {
@@ -303,7 +303,7 @@ fn live<N: BootName + Send + Sync, R: Threads + Wait + Print + Clock + Alloc<A =
     table: Table,
     boot: Boot,
 ) -> Result<()>
-    requires { boot.frames ≡ N.frames }
+    requires { boot.table ≡ N.table }
 {
     let (system, mut cpus) = boot.start::<N>(rt.alloc())?;
     let told = print_on(rt, pace, table, &system, &mut cpus);

@@ -44,7 +44,7 @@ fn are_same(rt: &impl Abort, one: &Seen, other: &Seen) {
 }
 
 fn first_frame<N: BootName>(rt: &impl Abort, system: &System<N>) -> Frame
-    ensures { result < N.frames.frames }
+    ensures { result < N.table.frames }
 {
     system.tables().words.frame(0).expect(rt, "a frame")
 }
@@ -93,8 +93,8 @@ fn shutdown_is_refused<N: BootName>(
     system: System<N>,
     cpus: Vec<Cpu<N>>,
 ) -> (System<N>, Vec<Cpu<N>>)
-    requires { length cpus.items ≡ N.frames.cpus }
-    ensures { length result.1.items ≡ N.frames.cpus }
+    requires { length cpus.items ≡ N.table.cpus }
+    ensures { length result.1.items ≡ N.table.cpus }
 {
     match system.shutdown(cpus) {
         Ok(_audit) => panic!(rt; "a pin remains"),
@@ -113,7 +113,7 @@ fn shutdown_is_refused<N: BootName>(
 // The life of a system that is taken apart and put together again. Then a pin prevents its shutdown. Neither changes
 // it.
 fn stays_unchanged<N: BootName, R: Wait + Abort>(rt: &R, alloc: Global, boot: Boot)
-    requires { boot.frames ≡ N.frames }
+    requires { boot.table ≡ N.table }
 {
     let (system, mut cpus) = boot.start::<N>(alloc).expect(rt, "memory");
     charges_and_pins(rt, &system, &mut cpus);

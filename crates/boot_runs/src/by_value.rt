@@ -13,7 +13,7 @@ use std::process::Abort;
 
 // CPU 1 makes a group by value, and the boot ends.
 fn serves_by_value<N: BootName, R: Abort>(rt: &R, alloc: Global, boot: Boot)
-    requires { boot.frames ≡ N.frames }
+    requires { boot.table ≡ N.table }
 {
     let (mut locked, tables, mut cpus) = boot.into_parts::<N>(alloc).expect(rt, "memory");
     let path: &[u8] = b"/a";

@@ -59,7 +59,7 @@ fn is_lent<N: BootName, R: Wait + Abort>(
 
 // The list of CPU 64 is filled with 64 frames. At the end all frames are free.
 fn lends_and_takes_back<N: BootName, R: Wait + Abort>(rt: &R, alloc: Global, boot: Boot)
-    requires { boot.frames ≡ N.frames }
+    requires { boot.table ≡ N.table }
 {
     let (system, mut cpus) = boot.start::<N>(alloc).expect(rt, "memory");
     expect_true(rt, cpus.len() == 64);

@@ -34,7 +34,7 @@ fn visit<N: BootName, R: Wait>(
     cpu: &mut Cpu<N>,
     cmd: &LockedCommand<'_>,
 ) -> ReplyWithText
-    requires { IsOfZone N.frames cmd.now }
+    requires { IsOfZone N.table cmd.now }
 {
     system.visit(rt, cpu, cmd)
 }
@@ -47,7 +47,7 @@ pub fn answers<N: BootName, R: Wait + Abort>(
     cmd: &LockedCommand<'_>,
     reply: &ReplyWithText,
 )
-    requires { IsOfZone N.frames cmd.now }
+    requires { IsOfZone N.table cmd.now }
 {
     let told = visit(rt, system, cpu, cmd);
     expect_true(rt, told == *reply);
@@ -122,7 +122,7 @@ fn removes_group<N: BootName, R: Wait + Abort>(rt: &R, system: &System<N>, cpu: 
 
 /// Shuts the system down, in which no CPU has a pin.
 pub fn ends<N: BootName>(rt: &impl Abort, system: System<N>, cpus: Vec<Cpu<N>>) -> Audit
-    requires { length cpus.items ≡ N.frames.cpus }
+    requires { length cpus.items ≡ N.table.cpus }
 {
     match system.shutdown(cpus) {
         Ok(audit) => audit,
@@ -145,7 +145,7 @@ pub fn nothing_was_charged() -> Audit {
 
 // The whole life of a system, in which each of the two CPUs is served.
 fn serves_each_cpu<N: BootName, R: Wait + Abort>(rt: &R, alloc: Global, boot: Boot)
-    requires { boot.frames ≡ N.frames }
+    requires { boot.table ≡ N.table }
 {
     let (system, mut cpus) = boot.start::<N>(alloc).expect(rt, "memory");
     expect_true(rt, cpus.len() == 2);

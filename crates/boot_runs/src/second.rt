@@ -13,7 +13,7 @@ use std::test::Fail;
 
 // Starts the boot and shuts it down; None if memory runs out.
 fn starts_and_ends<N: BootName, R: Abort>(rt: &R, alloc: Global, boot: Boot) -> Option<Audit>
-    requires { boot.frames ≡ N.frames }
+    requires { boot.table ≡ N.table }
 {
     let (system, cpus) = boot.start::<N>(alloc).ok()?;
     Some(ends(rt, system, cpus))
@@ -56,7 +56,7 @@ fn starts_and_tells<N: BootName, R: Wait + Abort>(
     alloc: Global,
     boot: Boot,
 ) -> Option<(Vec<u8>, Vec<u8>)>
-    requires { boot.frames ≡ N.frames }
+    requires { boot.table ≡ N.table }
 {
     let (system, mut cpus) = boot.start::<N>(alloc).ok()?;
     let told = tells_both(rt, alloc, &system, &mut cpus);

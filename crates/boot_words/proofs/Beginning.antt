@@ -4,9 +4,9 @@ use Rattle.std.specs.Prelude.{nat_le, slice_index}
 use Rattle.std.proofs.lemmas.List.{drop-replicate, length-replicate, take-replicate}
 use mathlib.Core.Logic.{dite}
 use native.Mathlib.Decide.{ℕ_discrete}
-use Rattle.frame_word.specs.Totals.{sum_over}
+use Rattle.stock_word.specs.Stock.{group_base}
 use Rattle.step_rules.specs.State.{Zone, one_if}
-use Rattle.boot_words.specs.{AllOf, frame_base, words_in, word_count, BeginsRun, RunRule, of_number, no_past, all_pasts, cpus_pasts}
+use Rattle.boot_words.specs.{AllOf, frame_base, words_in, word_count, BeginsRun, RunRule, of_number, sum_over, no_past, all_pasts, cpus_pasts}
 use Rattle.boot_words.proofs.Booting.{a_boot_has_words}
 use Rattle.boot_words.proofs.Counting.{case_le, is_high, is_low, is_none, is_own}
 
@@ -46,7 +46,7 @@ one_each cpus q = dite (ℕ_discrete 0 q)
     ])
 
 first_begins : (zone : Zone) (number : ℕ) → BeginsRun zone [] (no_past number)
-first_begins zone number = record { goes = record { rest = []; is = refl; others = tt }; fast = λ lock. tt; few = (let e : 0 < 65536 = omega arith in e) }
+first_begins zone number = record { goes = record { rest = []; is = refl; others = tt }; fast = λ lock. tt; few = (let e : 0 < group_base = omega arith in e) }
 
 cpus_begin : (zone : Zone) (p n : ℕ) → AllOf (BeginsRun zone []) (cpus_pasts p n)
 cpus_begin zone p zero = tt
@@ -63,7 +63,7 @@ rule_opens zone =
         stocks = λ i. ap (λ l. slice_index l i) (stock_zeros zone) ∙ zeros (16 * (zone.cpus + 1)) i;
       });
       wide = length-replicate (word_count zone) 0;
-      small = λ cpu. (let e : 0 < 65536 = omega arith in e);
+      small = λ cpu. (let e : 0 < group_base = omega arith in e);
       one_past = one_each zone.cpus;
       fits = ((first_begins zone 0, cpus_begin zone 1 zone.cpus), tt);
     }

@@ -3,16 +3,15 @@ use Rattle.std.proofs.Common.{[], ◌≡◌, ◌≢◌, ℕ, ◌+◌, ◌-◌, �
 use Rattle.std.specs.Prelude.{◌⊎◌, nat_le}
 use Rattle.std.proofs.lemmas.Bool.{cases_Bool, cond-false, leb-true, ne_eqb}
 use prog.Atomic.{either}
-use Rattle.frame_word.specs.{most_references, KnownTable}
 use Rattle.step_rules.specs.declared.step.Action.{Action}
 use Rattle.step_rules.specs.declared.step.Action.TheVariants.{Get, Put}
 use Rattle.step_rules.specs.declared.step.Answer.{Answer}
 use Rattle.step_rules.specs.declared.step.Answer.TheVariants.{Full, Held, Zero}
-use Rattle.step_rules.specs.{is_frame, get_answer, state_of, IsLegalRun, holds_lock}
+use Rattle.step_rules.specs.{is_frame, get_answer, state_of, IsLegalRun, holds_lock, most_references}
 use Rattle.step_rules.proofs.Freeing.{zone_of_run}
 use Rattle.step_rules.proofs.LegalTests.{get_tests, put_tests}
 use Rattle.step_rules.proofs.SoundSteps.{below_frames}
-use Rattle.boot_words.specs.{GrewBy, KnownPasts, first_past, own_past, IsCpuPast, MayDo, zone_of_boot, MayChange, CpuMakes}
+use Rattle.boot_words.specs.{GrewBy, KnownPasts, first_past, own_past, IsCpuPast, MayDo, zone_of_boot, MayChange, CpuMakes, KnownTable}
 use Rattle.boot_words.specs.declared.past.Past.{Past}
 use Rattle.boot_words.proofs.WordCounts.{held_answer}
 use Rattle.boot_words.specs.declared.word.Word.TheVariants.{OfFrame}

@@ -1,13 +1,13 @@
 -- The table at the end: one seat has all pasts.
 use Rattle.std.proofs.Common.{[], ◌≡◌, ℕ, suc, ◌+◌, ◌<◌, ◌≤◌, List, ◌∷◌, ◌++◌, length, refl, ap, sym, ◌∙◌, subst, arith, inl, inr}
 use Rattle.atomic_table.specs.Table.{Final, Seen}
-use Rattle.frame_word.specs.{KnownTable, sum_over}
-use Rattle.frame_word.proofs.Totals.{total_member}
 use Rattle.step_rules.specs.State.{Zone}
 use Rattle.boot_words.specs.declared.past.Past.{Past}
-use Rattle.boot_words.specs.{AllOf, BeginsRun, RunRule, of_number, run_rule, HasCpuPast, IsClosedRun, IsEndOfRun, pasts_of_cpus, KnownCpuSeat}
+use Rattle.boot_words.specs.{AllOf, BeginsRun, RunRule, of_number, sum_over, run_rule, HasCpuPast, IsClosedRun, IsEndOfRun, pasts_of_cpus, KnownCpuSeat}
 use Rattle.boot_words.proofs.Each.{all_at}
 use Rattle.boot_words.proofs.Counting.{all_low, case_le, count_all, each_one, is_high, is_low}
+use Rattle.boot_words.proofs.Totals.{total_member}
+use Rattle.boot_words.specs.Tables.{KnownTable}
 
 pub end_of_run : (zone : Zone) (id : ℕ) (pasts : List Past) (words : List ℕ) (slots : List (Unit {0})) → Final (Seen (run_rule zone) id pasts) words slots
     → IsEndOfRun zone words pasts

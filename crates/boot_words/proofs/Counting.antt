@@ -4,11 +4,10 @@ use Rattle.std.specs.Prelude.{◌⊎◌, nat_le}
 use Rattle.std.proofs.lemmas.Bool.{cases_Bool, le-leb, leb-false, leb-true, lt-leb, ne_eqb}
 use mathlib.Core.Logic.{dite}
 use native.Mathlib.Decide.{ℕ_discrete}
-use Rattle.frame_word.specs.Totals.{sum_over}
 use Rattle.step_rules.specs.State.{one_if, sum_to}
 use Rattle.step_rules.proofs.Sums.{sum_both, sum_none, sum_only}
 use Rattle.boot_words.specs.declared.past.Past.{Past}
-use Rattle.boot_words.specs.Rule.{AllOf, of_number}
+use Rattle.boot_words.specs.Rule.{AllOf, of_number, sum_over}
 
 pub is_low : (n m : ℕ) → n ≤ m → one_if (nat_le n m) ≡ 1
 is_low n m low = ap one_if (le-leb n m low)
@@ -70,8 +69,3 @@ each_one (suc n) f few all q low =
     dite (ℕ_discrete q n)
     (λ e. ap f e ∙ (let one : f n ≡ 1 = omega (arith, all, less, last) in one))
     (λ ne. each_one n f (λ k below. few k (omega (arith, below))) (omega (arith, all, less, last)) q (omega (arith, low, ne)))
-
-pub ones : (n : ℕ) → sum_to n (λ q. 1) ≡ n
-unfolding sum_to
-ones zero = refl
-ones (suc n) = let a = ones n in omega (arith, a)

@@ -1,10 +1,19 @@
 -- The seats of the CPUs are split off one by one.
-use Rattle.std.proofs.Common.{[], ◌≡◌, ℕ, suc, ◌+◌, ◌-◌, List, ◌∷◌, ◌++◌, append_assoc, ap, sym, ◌∙◌}
+use Rattle.std.proofs.Common.{[], ◌≡◌, ℕ, suc, ◌+◌, ◌-◌, ◌<◌, ◌≤◌, List, ◌∷◌, ◌++◌, append_assoc, ap, sym, ◌∙◌, arith}
 use Rattle.std.proofs.lemmas.List.{append-nil}
 use Rattle.atomic_table.specs.Seated.{TableId}
-use Rattle.stock_word.proofs.Deals.{all_left}
 use Rattle.boot_words.specs.declared.past.Past.{Past}
 use Rattle.boot_words.specs.{no_past, KnownCpuSeat, cpu_at_first, cpus_at_first, cpus_pasts}
+
+-- how many CPUs are left
+pub one_more : (cpus p : ℕ) → p < cpus + 1 → cpus + 1 - p ≡ suc (cpus + 1 - (p + 1))
+one_more cpus p h = omega arith
+
+pub none_more : (cpus p : ℕ) → cpus + 1 ≤ p → cpus + 1 - p ≡ 0
+none_more cpus p h = omega arith
+
+pub all_left : (cpus : ℕ) → cpus ≡ cpus + 1 - 1
+all_left cpus = omega arith
 
 pub next_past : (pasts : List Past) (p n k : ℕ) → pasts ≡ cpus_pasts p n → n ≡ suc k → pasts ≡ no_past p ∷ cpus_pasts (p + 1) k
 next_past pasts p n k is more = is ∙ ap (cpus_pasts p) more

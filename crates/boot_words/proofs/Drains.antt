@@ -7,9 +7,8 @@ use mathlib.Core.Option.{some}
 use native.Mathlib.Decide.{ℕ_discrete}
 use lib.ListN.{get_elem?}
 use Rattle.atomic_table.specs.Table.{State as Board}
-use Rattle.frame_word.specs.Seats.{KnownTable}
-use Rattle.stock_word.specs.declared.view.Stock.{Stock}
-use Rattle.stock_word.specs.declared.view.Stock.TheVariants.{NoGroup, HeldBy, DrainedOf}
+use Rattle.stock_word.specs.declared.stock.Stock.{Stock}
+use Rattle.stock_word.specs.declared.stock.Stock.TheVariants.{NoGroup, HeldBy, DrainedOf}
 use Rattle.stock_word.specs.{HasWord, group_of, stock_pages_of, word_of, stock_index}
 use Rattle.step_rules.specs.declared.step.Step.{Step}
 use Rattle.step_rules.specs.declared.step.Action.TheVariants.{DrainStock, Put}
@@ -22,7 +21,7 @@ use Rattle.step_rules.proofs.LegalTests.{drain_stock_tests, put_tests}
 use Rattle.step_rules.proofs.SoundSteps.{below_frames, cpu_range}
 use Rattle.boot_words.specs.{stock_in, stock_said, with_frame_word, ChangesWords, frame_word_at, put_answer_at, HoldsLock, local_seen, frame_base}
 use Rattle.boot_words.specs.{words_in, run_rule, KnownPasts, IsHeld, IsHolder, MakesStep, MayMake, cpu_past, local_by_pasts, own_past, zone_of_boot}
-use Rattle.boot_words.specs.{MayChange}
+use Rattle.boot_words.specs.{MayChange, KnownTable}
 use Rattle.boot_words.specs.Steps.{OfGroup, OfNone}
 use Rattle.boot_words.specs.declared.past.Past.{Past}
 use Rattle.boot_words.proofs.Parts.{frame_reads, words_set}

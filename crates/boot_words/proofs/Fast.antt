@@ -4,14 +4,13 @@ use Rattle.std.specs.Prelude.{slice_index}
 use mathlib.Core.Option.{some}
 use lib.ListN.{get_elem?}
 use Rattle.atomic_table.specs.Table.{Act, State as Board, Valid, carried_after, keeps, stepped}
-use Rattle.frame_word.specs.Totals.{sum_over}
 use Rattle.step_rules.specs.declared.step.Step.{Step}
 use Rattle.step_rules.specs.declared.step.Action.{Action}
 use Rattle.step_rules.specs.declared.step.Action.TheVariants.{Get, Put, Consume, Credit}
 use Rattle.step_rules.specs.declared.step.Answer.{Answer}
 use Rattle.step_rules.specs.{Zone, is_legal, Run, after, state_of, IsLegalRun}
 use Rattle.step_rules.proofs.Runs.{state_more}
-use Rattle.boot_words.specs.{IsFast, GrewBy, IsRunOf, ChangesWords, AllOf, words_in, BeginsRun, of_number, run_rule}
+use Rattle.boot_words.specs.{IsFast, GrewBy, IsRunOf, ChangesWords, AllOf, words_in, BeginsRun, of_number, sum_over, run_rule}
 use Rattle.boot_words.specs.declared.past.Past.{Past}
 use Rattle.boot_words.proofs.Grown.{grown, grown_legal}
 use Rattle.boot_words.proofs.Lasting.{fast_legality_lasts}

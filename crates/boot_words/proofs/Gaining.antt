@@ -4,7 +4,6 @@ use Rattle.std.specs.Prelude.{◌⊎◌, not, nat_le, slice_get, slice_set}
 use Rattle.std.proofs.lemmas.Bool.{and_parts, cases_Bool, cases_eq, eqb-true, leb-true, true≢false}
 use Rattle.std.proofs.lemmas.List.{get_or-set_other, get_or-set_same, length-set}
 use Rattle.std.proofs.lemmas.Option.{get_or_from_slice_get, slice_get-get_or, slice_get_within}
-use Rattle.frame_word.specs.Seats.{KnownTable}
 use Rattle.step_rules.specs.declared.phase.Hold.{Hold}
 use Rattle.step_rules.specs.declared.step.Step.{Step}
 use Rattle.step_rules.specs.declared.step.Answer.{Answer}
@@ -19,7 +18,7 @@ use Rattle.step_rules.proofs.PhaseLemmas.{none_some}
 use Rattle.step_rules.proofs.Runs.{after_illegal, allowed, legal_more, state_more}
 use Rattle.boot_words.specs.declared.past.Past.{Past}
 use Rattle.boot_words.specs.{AllOf, IsPastOf, GrewBy, KnownPasts, own_past, Meets, GrewByAll, SeesMore, changes_nothing, changes_of, HasInOrder}
-use Rattle.boot_words.specs.{AreChangesOf, GainsSteps, ABootHasNoSteps, GainsGoOn, TheRunSoFarIsLegal}
+use Rattle.boot_words.specs.{AreChangesOf, GainsSteps, ABootHasNoSteps, GainsGoOn, TheRunSoFarIsLegal, KnownTable}
 use Rattle.boot_words.proofs.Holding.{allowed_at, append_none}
 use Rattle.boot_words.proofs.Ordered.{changes_both, others_add_none, other_adds_none, without_none, has_none, without_both, has_behind, has_through, changes_in_order, as_many, IsSeatOfChange, only_quiet_are_left_out}
 

@@ -6,8 +6,7 @@ use Rattle.std.proofs.lemmas.Bool.{false≢true}
 use Rattle.std.proofs.lemmas.List.{length-set, set-get_or}
 use mathlib.Core.Option.{some}
 use lib.ListN.{get_elem?}
-use Rattle.frame_word.specs.Totals.{sum_over, total_over}
-use Rattle.frame_word.proofs.Totals.{total_plus}
+use Rattle.stock_word.specs.Stock.{group_base}
 use Rattle.step_rules.specs.declared.phase.Hold.{Hold}
 use Rattle.step_rules.specs.declared.phase.Hold.TheVariants.{HeldBy, Unheld, Visiting}
 use Rattle.step_rules.specs.declared.step.Action.{Action}
@@ -20,7 +19,7 @@ use Rattle.step_rules.specs.{Zone, at_boot, is_unheld, one_if, Run, after, state
 use Rattle.step_rules.proofs.PhaseLemmas.{equal_test}
 use Rattle.step_rules.proofs.Runs.{after_illegal, next}
 use Rattle.boot_words.specs.{HasNoStepOf, IsFast, OthersFollow, IsRunOf, AllOf, IsPastOf, LeavesLock, words_in, AreFast, HasLock, BeginsRun, RunRule}
-use Rattle.boot_words.specs.{of_number}
+use Rattle.boot_words.specs.{of_number, sum_over, total_over}
 use Rattle.boot_words.specs.declared.past.Past.{Past}
 use Rattle.boot_words.proofs.Grown.{grown}
 use Rattle.boot_words.proofs.Holding.{append_none}
@@ -28,6 +27,7 @@ use Rattle.boot_words.proofs.Owning.{fold_on}
 use Rattle.boot_words.proofs.Each.{all_set}
 use Rattle.boot_words.proofs.Booking.{AreSmall, small_more}
 use Rattle.boot_words.proofs.Seats.{counts_same, seats_set}
+use Rattle.boot_words.proofs.Totals.{total_plus}
 
 -- ---- runs of steps that need no lock
 pub fast_hold : (s : State) (q : ℕ) (action : Action) (answer : Answer) → IsFast action → (after s q action answer).hold ≡ s.hold
@@ -48,10 +48,6 @@ same_hold zone seen rest fast = ap (λ (t : State). t.hold) (fold_on (at_boot zo
 fast_more : (run : Run) (e : Step × Answer) → AreFast run → IsFast e.0.action → AreFast (run ++ e ∷ [])
 fast_more [] e all one = (one, tt)
 fast_more (x ∷ run) e all one = (all.0, fast_more run e all.1 one)
-
-pub fast_both : (xs ys : Run) → AreFast xs → AreFast ys → AreFast (xs ++ ys)
-fast_both [] ys a b = b
-fast_both (x ∷ xs) ys a b = (a.0, fast_both xs ys a.1 b)
 
 none_more : (seat : ℕ) (run : Run) (e : Step × Answer) → HasNoStepOf seat run → e.0.seat ≢ seat → HasNoStepOf seat (run ++ e ∷ [])
 none_more seat [] e all ne = (ne, tt)
@@ -156,7 +152,7 @@ pub grown_begins : (zone : Zone) (run : Run) (p : Past) (e : Step × Answer) (go
 grown_begins zone run p e goes small = record {
   goes = record { rest = []; is = ap (λ l. l ++ e ∷ []) goes.is ∙ sym (append_none ((p.seen ++ goes.rest) ++ e ∷ [])); others = tt };
   fast = λ lock. tt;
-  few = subst (λ r. ((state_of zone (r ++ e ∷ [])).parts p.number).book < 65536) goes.is (small p.number);
+  few = subst (λ r. ((state_of zone (r ++ e ∷ [])).parts p.number).book < group_base) goes.is (small p.number);
 }
 
 at_most : (b : Bool) → one_if b ≤ 1

@@ -1,5 +1,5 @@
 -- The pasts of a table's seats as the run grows.
-use Rattle.std.proofs.Common.{[], ◌+◌, ◌∷◌, ◌++◌, subst}
+use Rattle.std.proofs.Common.{[], ◌∷◌, ◌++◌, subst}
 use Rattle.step_rules.specs.declared.step.Step.{Step}
 use Rattle.step_rules.specs.declared.step.Answer.{Answer}
 use Rattle.step_rules.specs.{Zone, Run, IsLegalRun}

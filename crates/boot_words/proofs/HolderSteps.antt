@@ -1,5 +1,5 @@
 -- A step under the lock on a word of the frames or of the stocks.
-use Rattle.std.proofs.Common.{[], ◌≡◌, ℕ, ◌+◌, Bool, true, false, ◌∷◌, ◌++◌, refl, ap, sym, ◌∙◌, subst, inl, inr, eq-eqb}
+use Rattle.std.proofs.Common.{[], ◌≡◌, ℕ, Bool, true, false, ◌∷◌, ◌++◌, refl, ap, sym, ◌∙◌, subst, inl, inr, eq-eqb}
 use Rattle.std.specs.Prelude.{◌⊎◌, ◌||◌, ◌==◌}
 use Rattle.std.proofs.lemmas.Bool.{false≢true, or_left, true≢false}
 use Rattle.std.proofs.lemmas.List.{append_cancel_left}

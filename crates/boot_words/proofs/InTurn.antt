@@ -7,8 +7,8 @@ use mathlib.Core.Option.{some}
 use lib.ListN.{get_elem?}
 use Rattle.atomic_table.specs.Table.{State as Board, keeps}
 use Rattle.atomic_table.proofs.Lists.{set_again}
-use Rattle.frame_word.specs.{mark, KnownTable}
-use Rattle.stock_word.specs.StockRule.{report_index}
+use Rattle.frame_word.specs.{mark}
+use Rattle.stock_word.specs.Stock.{report_index}
 use Rattle.step_rules.specs.declared.phase.Phase.{Phase}
 use Rattle.step_rules.specs.declared.phase.Phase.TheVariants.{InZone, Lent, Head}
 use Rattle.step_rules.specs.declared.phase.Stage.TheVariants.{BackAt, FreshAt}
@@ -16,9 +16,9 @@ use Rattle.step_rules.specs.declared.phase.Way.TheVariants.{OnList}
 use Rattle.step_rules.specs.declared.step.Step.{Step}
 use Rattle.step_rules.specs.declared.step.Action.TheVariants.{Absorb, Collect, PassBack, PassOut, Report, TakeIn}
 use Rattle.step_rules.specs.declared.step.Answer.{Answer}
-use Rattle.step_rules.specs.declared.step.Answer.TheVariants.{Pages}
+use Rattle.step_rules.specs.declared.step.Answer.TheVariants.{Done, Pages}
 use Rattle.step_rules.specs.{Kind, has_as, is_free, is_live_phase, Part, Zone, front_of, is_cpu, live_references, is_legal, is_passable, Run}
-use Rattle.step_rules.specs.{state_of, is_of_lock}
+use Rattle.step_rules.specs.{state_of, is_of_lock, zone_makes, cpu_makes}
 use Rattle.step_rules.specs.Phases.{ListFrame, FreshFrame, BackFrame}
 use Rattle.step_rules.specs.State.{State}
 use Rattle.step_rules.proofs.CoverParts.{part_seen}
@@ -27,7 +27,7 @@ use Rattle.step_rules.proofs.LegalTests.{pass_back_tests, pass_out_tests}
 use Rattle.step_rules.proofs.SoundSteps.{below_frames, cpu_range}
 use Rattle.boot_words.specs.Words.{Words}
 use Rattle.boot_words.specs.{IsRunOf, with_report_word, word_in_phase, ChangesWords, frame_word_at, report_word_at, AreLegal, GrewInTurn, MakesInTurn}
-use Rattle.boot_words.specs.{answered_done, lend_run, take_back_run, HoldsLock, local_seen, frame_base, words_in, RunRule, run_rule, KnownPasts}
+use Rattle.boot_words.specs.{lend_run, take_back_run, HoldsLock, local_seen, frame_base, words_in, RunRule, run_rule, KnownPasts, KnownTable}
 use Rattle.boot_words.specs.{IsHeld, IsHolder, cpu_past, local_by_pasts, own_past, zone_of_boot, MayChange}
 use Rattle.boot_words.specs.declared.past.Past.{Past}
 use Rattle.boot_words.proofs.Composing.{Midst, at_first, set_over, then_made}
@@ -159,9 +159,9 @@ may_lend zone z c f holds legal id b k homes at small =
     sym (frame_reads zone f b.words)
     ∙ zero_word zone (words_in zone b.words) k.run f k.is (subst (λ y. f < y.frames) (zone_of_run zone k.run) (below_frames (state_of zone k.run).zone f tests.1)) (free_held _ tests.3) in
     let sent = set b.words j (mark q) in
-    let one = goes_along zone b.views id z c steps b.words (answered_done 0 (PassOut f q)) (answered_done q (TakeIn f) ∷ []) j (mark q)
+    let one = goes_along zone b.views id z c steps b.words (zone_makes (PassOut f q) Done) (cpu_makes q (TakeIn f) Done ∷ []) j (mark q)
     (begins zone b k id z c steps at holds legal) (inl refl) refl tt (words_set zone f (mark q) b.words) in
-    let two = goes_along zone b.views id z c steps sent (answered_done q (TakeIn f)) [] j 0 one (inr refl) refl tt (words_set zone f 0 sent) in
+    let two = goes_along zone b.views id z c steps sent (cpu_makes q (TakeIn f) Done) [] j 0 one (inr refl) refl tt (words_set zone f 0 sent) in
     ends zone b id z c steps (set sent j 0) two (set_over b.words j (mark q) 0 ∙ ap (set b.words j) (sym none) ∙ set-get_or b.words j 0)
 
 pub lends : (t : KnownTable) (s : KnownPasts) (cpu f : ℕ) → IsHeld t s → IsHolder s cpu → AreLegal (local_by_pasts t s) (lend_run cpu f)
@@ -241,11 +241,11 @@ may_take_back zone z c f holds legal absorbed id b k homes at small =
     let wide1 : r < length (words_in zone w1).stocks = subst (λ (w : Words). r < length w.stocks) (sym (words_set zone f (mark q) b.words)) found.wide in
     let report3 : report_word_at (words_in zone w3) q ≡ 1 =
     report_stays zone w2 f 0 q ∙ ap (λ w. report_word_at w q) (stock_words_set zone r 1 low w1) ∙ get_or-set_same (words_in zone w1).stocks r 1 0 wide1 in
-    let one = goes_along zone b.views id z c steps b.words (answered_done q (PassBack f)) _ j (mark q)
+    let one = goes_along zone b.views id z c steps b.words (cpu_makes q (PassBack f) Done) _ j (mark q)
     (begins zone b k id z c steps at holds legal) (inr refl) refl tt (words_set zone f (mark q) b.words) in
-    let two = goes_along zone b.views id z c steps w1 (answered_done q (Report 1)) _ r 1 one (inr refl) refl tt
+    let two = goes_along zone b.views id z c steps w1 (cpu_makes q (Report 1) Done) _ r 1 one (inr refl) refl tt
     (stock_words_set zone r 1 low w1 ∙ ap (with_report_word (words_in zone w1) q) (let e : 1 ≡ report_word_at (words_in zone w1) q + 1 = omega (arith, report1) in e)) in
-    let three = goes_along zone b.views id z c steps w2 (answered_done 0 (Collect f q)) _ j 0 two (inl refl) refl tt (words_set zone f 0 w2) in
+    let three = goes_along zone b.views id z c steps w2 (zone_makes (Collect f q) Done) _ j 0 two (inl refl) refl tt (words_set zone f 0 w2) in
     let four = goes_along zone b.views id z c steps w3 (record { seat = 0; action = Absorb q }, Pages 1) [] r 0 three (inl refl) refl tt
     (sym report3, stock_words_set zone r 0 low w3) in
     ends zone b id z c steps (set w3 r 0) four

@@ -1,6 +1,5 @@
 -- Gets and puts leave a CPU's stock alone, and what the CPU knows of it.
 use Rattle.std.proofs.Common.{[], ◌≡◌, ℕ, ◌==◌, Bool, true, false, cond, ◌∷◌, ◌++◌, length, refl, ap, sym, ◌∙◌, subst}
-use Rattle.frame_word.specs.Seats.{KnownTable}
 use Rattle.step_rules.specs.declared.step.Action.{Action}
 use Rattle.step_rules.specs.declared.step.Action.TheVariants.{Get, Put}
 use Rattle.step_rules.specs.declared.step.Answer.{Answer}
@@ -9,7 +8,7 @@ use Rattle.step_rules.specs.State.{State}
 use Rattle.step_rules.specs.{with_at, after, state_of, IsLegalRun, with_back, holds_lock}
 use Rattle.step_rules.proofs.Basics.{at_same}
 use Rattle.step_rules.proofs.Runs.{legal_from, state_more}
-use Rattle.boot_words.specs.{HasNoStepOf, IsFast, stock_in, stock_said, KnownPasts, own_past, zone_of_boot}
+use Rattle.boot_words.specs.{HasNoStepOf, IsFast, stock_in, stock_said, KnownPasts, own_past, zone_of_boot, KnownTable}
 use Rattle.boot_words.proofs.Holding.{take_length}
 use Rattle.boot_words.proofs.Away.{away_stays}
 use Rattle.frame_word.specs.declared.answers.Get as gets
@@ -34,10 +33,10 @@ same_put s q f answer = refl
 -- a step that changes neither the CPU's stock nor who holds the lock
 pub keeps_cpu : (t : KnownTable) (c : KnownCpuSeat) (action : Action) (answer : Answer) (s' : KnownPasts) → IsAwayCpu t c → IsFast action
     → ((s : State) (q : ℕ) → ((after s q action answer).parts q).stock ≡ (s.parts q).stock)
-    → CpuMakes t c.seat action answer s' → IsAwayCpu t (record { seat = s'; number = c.number; last = c.last })
+    → CpuMakes t c.past action answer s' → IsAwayCpu t (record { past = s'; number = c.number; last = c.last })
 keeps_cpu t c action answer s' is fast same m =
     let zone = zone_of_boot t in
-    let p = own_past c.seat in
+    let p = own_past c.past in
     let q = c.number in
     let between = m.grew.between in
     let before = p.seen ++ between in
@@ -57,18 +56,18 @@ keeps_cpu t c action answer s' is fast same m =
       has_word = is.has_word;
     }
 
-pub keeps_get : (t : KnownTable) (c : KnownCpuSeat) (f : ℕ) (answer : Answer) (s' : KnownPasts) → IsAwayCpu t c → CpuMakes t c.seat (Get f) answer s'
-    → IsAwayCpu t (record { seat = s'; number = c.number; last = c.last })
+pub keeps_get : (t : KnownTable) (c : KnownCpuSeat) (f : ℕ) (answer : Answer) (s' : KnownPasts) → IsAwayCpu t c → CpuMakes t c.past (Get f) answer s'
+    → IsAwayCpu t (record { past = s'; number = c.number; last = c.last })
 keeps_get t c f answer s' is m = keeps_cpu t c (Get f) answer s' is tt (λ s q. same_get s q f answer) m
 
-pub keeps_put : (t : KnownTable) (c : KnownCpuSeat) (f : ℕ) (answer : Answer) (s' : KnownPasts) → IsAwayCpu t c → CpuMakes t c.seat (Put f) answer s'
-    → IsAwayCpu t (record { seat = s'; number = c.number; last = c.last })
+pub keeps_put : (t : KnownTable) (c : KnownCpuSeat) (f : ℕ) (answer : Answer) (s' : KnownPasts) → IsAwayCpu t c → CpuMakes t c.past (Put f) answer s'
+    → IsAwayCpu t (record { past = s'; number = c.number; last = c.last })
 keeps_put t c f answer s' is m = keeps_cpu t c (Put f) answer s' is tt (λ s q. same_put s q f answer) m
 
 -- each answer of a get
-pub keeps_gets : (t : KnownTable) (c : KnownCpuSeat) (f : ℕ) (answer : gets.Get) (s' : KnownPasts) → IsAwayCpu t c → GetsReference t c.seat f answer s'
-    → IsAwayCpu t (record { seat = s'; number = c.number; last = c.last })
+pub keeps_gets : (t : KnownTable) (c : KnownCpuSeat) (f : ℕ) (answer : gets.Get) (s' : KnownPasts) → IsAwayCpu t c → GetsReference t c.past f answer s'
+    → IsAwayCpu t (record { past = s'; number = c.number; last = c.last })
 keeps_gets t c f said.Held s' is m = keeps_get t c f Held s' is m
 keeps_gets t c f said.Zero s' is m = keeps_get t c f Zero s' is m
 keeps_gets t c f said.Full s' is m = keeps_get t c f Full s' is m
-keeps_gets t c f (said.Raced n) s' is m = subst (λ (s : KnownPasts). IsAwayCpu t (record { seat = s; number = c.number; last = c.last })) (sym m.0) is
+keeps_gets t c f (said.Raced n) s' is m = subst (λ (s : KnownPasts). IsAwayCpu t (record { past = s; number = c.number; last = c.last })) (sym m.0) is

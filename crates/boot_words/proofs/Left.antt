@@ -1,12 +1,11 @@
 -- What a seat's past left still stands after the run.
-use Rattle.std.proofs.Common.{[], ◌≡◌, ℕ, ◌+◌, ◌==◌, ◌&&◌, Bool, false, ◌∷◌, ◌++◌, length, refl, ap, sym, ◌∙◌, subst, arith, inl, inr, append_assoc}
-use Rattle.std.proofs.lemmas.Bool.{cases_Bool, ne_eqb}
+use Rattle.std.proofs.Common.{[], ◌≡◌, ℕ, false, ◌∷◌, ◌++◌, length, refl, ap, sym, ◌∙◌, subst, inl, inr, append_assoc}
+use Rattle.std.proofs.lemmas.Bool.{cases_Bool}
 use Rattle.step_rules.specs.declared.step.Action.{Action}
 use Rattle.step_rules.specs.declared.step.Action.TheVariants.{Absorb, Fill}
-use Rattle.step_rules.specs.declared.step.Answer.{Answer}
-use Rattle.step_rules.specs.{Zone, one_if, Run, state_of, IsLegalRun, holds_lock}
+use Rattle.step_rules.specs.{Zone, Run, state_of, IsLegalRun, holds_lock}
 use Rattle.step_rules.proofs.Runs.{legal_from}
-use Rattle.boot_words.specs.{hide, BooksNothingOf, HasNoStepOf, IsFast, books, HasSameOrDrained, AreFast, BeginsRun, times_made}
+use Rattle.boot_words.specs.{hide, BooksNothingOf, HasNoStepOf, IsFast, books, HasSameOrDrained, AreFast, BeginsRun}
 use Rattle.boot_words.specs.declared.past.Past.{Past}
 use Rattle.boot_words.proofs.Away.{away_stays}
 use Rattle.boot_words.proofs.Draining.{stocks_are_own}
@@ -52,22 +51,3 @@ cpu_left zone run p legal begin =
       | inl holds ↦ stocks_are_own zone p.seen goes.rest q longer goes.others (books_none q goes.rest (begin.fast (inr holds)))
       | inr away ↦ (away_stays zone p.seen goes.rest q longer goes.others away).1
     ])
-
--- ---- steps of the seat
-none_made : (seat : ℕ) (test : Action → Answer → Bool) (rest : Run) → HasNoStepOf seat rest → times_made seat test rest ≡ 0
-none_made seat test [] none = refl
-none_made seat test (e ∷ rest) none =
-    let a : one_if (e.0.seat == seat && test e.0.action e.1) ≡ 0 = ap (λ b. one_if (b && test e.0.action e.1)) (ne_eqb e.0.seat seat none.0) in
-    let b = none_made seat test rest none.1 in omega (arith, a, b)
-
-made_both : (seat : ℕ) (test : Action → Answer → Bool) (xs ys : Run) → times_made seat test (xs ++ ys) ≡ times_made seat test xs + times_made seat test ys
-made_both seat test [] ys = omega arith
-made_both seat test (e ∷ xs) ys = let a = made_both seat test xs ys in omega (arith, a)
-
--- the past has all steps of its seat
-pub made_left : (zone : Zone) (run : Run) (p : Past) (test : Action → Answer → Bool) → BeginsRun zone run p → times_made p.number test p.seen ≡ times_made p.number test run
-made_left zone run p test begin =
-    let goes = begin.goes in
-    let a = made_both p.number test p.seen goes.rest in
-    let b = none_made p.number test goes.rest goes.others in
-    (let e : times_made p.number test p.seen ≡ times_made p.number test (p.seen ++ goes.rest) = omega (arith, a, b) in e) ∙ ap (times_made p.number test) (sym goes.is)

@@ -1,11 +1,13 @@
 pub mod Away
 pub mod Backs
 pub mod Beginning
+pub mod Booked
 pub mod Booking
 pub mod Booting
 pub mod Calling
 pub mod Closing
 pub mod Composing
+pub mod Counted
 pub mod Counting
 pub mod Counts
 pub mod Dealing
@@ -18,7 +20,7 @@ pub mod Gaining
 pub mod Groupless
 pub mod Growing
 pub mod Grown
-pub mod HandOvers
+pub mod Hands
 pub mod Hiding
 pub mod HolderSteps
 pub mod Holding
@@ -26,10 +28,8 @@ pub mod InTurn
 pub mod Keeping
 pub mod Lasting
 pub mod Left
-pub mod Lifting
 pub mod Locking
 pub mod Looking
-pub mod Ones
 pub mod Ordered
 pub mod OwnParts
 pub mod Owning
@@ -37,11 +37,9 @@ pub mod Parting
 pub mod Parts
 pub mod Passing
 pub mod Plain
-pub mod PlainNotes
+pub mod PlainSteps
 pub mod Prepaying
 pub mod Putting
-pub mod Reading
-pub mod ReferencesShown
 pub mod Referencing
 pub mod Referring
 pub mod Resting
@@ -53,7 +51,7 @@ pub mod Showing
 pub mod Stepping
 pub mod StockSteps
 pub mod Stocking
-pub mod StocksShown
+pub mod Totals
 pub mod UnderLock
 pub mod Visiting
 pub mod WordCounts

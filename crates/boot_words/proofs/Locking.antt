@@ -3,8 +3,7 @@ use Rattle.std.proofs.Common.{[], ◌≡◌, ◌≢◌, ℕ, ◌+◌, ◌≤◌,
 use Rattle.std.specs.Prelude.{slice_index, not}
 use Rattle.std.proofs.lemmas.Bool.{or_left}
 use Rattle.atomic_table.specs.Table.{keeps}
-use Rattle.frame_word.specs.Seats.{KnownTable}
-use Rattle.stock_word.specs.declared.view.Stock.{Stock}
+use Rattle.stock_word.specs.declared.stock.Stock.{Stock}
 use Rattle.stock_word.specs.{HasWord, word_of, stock_index}
 use Rattle.step_rules.specs.declared.phase.Hold.TheVariants.{HeldBy, Unheld}
 use Rattle.step_rules.specs.declared.step.Step.{Step}
@@ -22,7 +21,7 @@ use Rattle.step_rules.proofs.Runs.{legal_more, state_more}
 use Rattle.step_rules.proofs.SoundSteps.{cpu_range}
 use Rattle.boot_words.specs.{OthersFollow, GrewBy, IsLegalLater, stock_in, hide, hide_phase, zone_references, HasSameLists, AllOf, BeginsRun}
 use Rattle.boot_words.specs.{HoldsLock, local_seen, LeavesFree, KnownPasts, IsCpuPast, IsHeld, IsHolder, IsZonePast, MayMake, Unlocks, cpu_past}
-use Rattle.boot_words.specs.{local_by_pasts, first_past, own_past, second_past, zone_of_boot, MayChange, first_alone, rest_of, IsAwayCpu}
+use Rattle.boot_words.specs.{local_by_pasts, first_past, own_past, second_past, zone_of_boot, MayChange, first_alone, rest_of, IsAwayCpu, KnownTable}
 use Rattle.boot_words.proofs.StockSteps.{stock_is_at, stock_low}
 use Rattle.boot_words.specs.declared.past.Past.{Past}
 use Rattle.boot_words.specs.Pasts.{Locks}
@@ -246,7 +245,7 @@ unlocked t s z c pasts found is m zone cpu =
 -- the CPU has its past back, and saw its stock
 pub released : (t : KnownTable) (s c : KnownPasts) (pasts : List Past) (found cpu : ℕ) (last : Stock) → IsHeld t s → IsHolder s cpu → Releases (zone_of_boot t) (own_past s) (cpu_past s) found pasts
     → c ≡ record { table = t.table; pasts = rest_of pasts } → ((stock : Stock) → HasWord stock → found ≡ word_of stock → last ≡ stock)
-    → IsAwayCpu t (record { seat = c; number = cpu; last = last })
+    → IsAwayCpu t (record { past = c; number = cpu; last = last })
 released t s c pasts found cpu last is holder m cpu_is decodes =
     let left = unlocked t s (record { table = t.table; pasts = first_alone pasts }) c pasts found is m refl cpu_is in
     let past : own_past c ≡ m.cpu_past = ap own_past cpu_is ∙ ap (λ l. first_past (rest_of l)) m.later_is in
@@ -258,14 +257,3 @@ released t s c pasts found cpu last is holder m cpu_is decodes =
       last = inl (subst (λ (y : Past × ℕ). stock_in ((state_of (zone_of_boot t) y.0.seen).parts y.1) ≡ last) (λ i. (sym past i, sym holder i)) (sym saw));
       has_word = subst HasWord (sym saw) m.stock.0;
     }
-
--- and the stock that it saw is the one that it has then
-pub saw_its_stock : (t : KnownTable) (s c : KnownPasts) (pasts : List Past) (found cpu : ℕ) (last : Stock) → IsHolder s cpu
-    → Releases (zone_of_boot t) (own_past s) (cpu_past s) found pasts → c ≡ record { table = t.table; pasts = rest_of pasts }
-    → ((stock : Stock) → HasWord stock → found ≡ word_of stock → last ≡ stock)
-    → last ≡ stock_in ((state_of (zone_of_boot t) (own_past c).seen).parts cpu)
-saw_its_stock t s c pasts found cpu last holder m cpu_is decodes =
-    let past : own_past c ≡ m.cpu_past = ap own_past cpu_is ∙ ap (λ l. first_past (rest_of l)) m.later_is in
-    let stock = stock_in ((state_of (zone_of_boot t) m.cpu_past.seen).parts (cpu_past s).number) in
-    let saw : last ≡ stock = decodes stock m.stock.0 m.stock.1 in
-    subst (λ (y : Past × ℕ). last ≡ stock_in ((state_of (zone_of_boot t) y.0.seen).parts y.1)) (λ i. (sym past i, sym holder i)) saw

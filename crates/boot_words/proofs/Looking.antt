@@ -1,16 +1,16 @@
 -- Loads under the lock that are no step.
 use Rattle.std.proofs.Common.{[], ◌≡◌, ℕ, ◌+◌, ◌<◌, ◌≤◌, true, List, ◌∷◌, refl, ap, sym, ◌∙◌, subst, arith}
 use Rattle.std.specs.Prelude.{slice_index, IfSome}
-use Rattle.frame_word.specs.{most_references, KnownTable}
-use Rattle.stock_word.specs.declared.view.Stock.{Stock}
-use Rattle.stock_word.specs.declared.view.Stock.TheVariants.{DrainedOf, HeldBy, NoGroup}
+use Rattle.stock_word.specs.declared.stock.Stock.{Stock}
+use Rattle.stock_word.specs.declared.stock.Stock.TheVariants.{DrainedOf, HeldBy, NoGroup}
 use Rattle.stock_word.specs.{HasWord, group_of, word_of, stock_index}
-use Rattle.step_rules.specs.{is_live_phase, Zone, live_references, state_of}
+use Rattle.stock_word.specs.Stock.{group_base}
+use Rattle.step_rules.specs.{is_live_phase, Zone, live_references, state_of, most_references}
 use Rattle.step_rules.specs.State.{State}
 use Rattle.step_rules.proofs.Living.{live_are_referenced}
 use Rattle.step_rules.proofs.Referring.{live_from_one}
 use Rattle.boot_words.specs.{stock_in, local_seen, AllOf, BeginsRun, frame_base, words_in, LeavesFree, KnownPasts, IsHeld, IsHolder, IsZonePast}
-use Rattle.boot_words.specs.{cpu_past, local_by_pasts, own_past, zone_of_boot, MayChange, LoadsReferences}
+use Rattle.boot_words.specs.{cpu_past, local_by_pasts, own_past, zone_of_boot, MayChange, LoadsReferences, KnownTable}
 use Rattle.boot_words.specs.declared.past.Past.{Past}
 use Rattle.boot_words.proofs.Each.{all_at}
 use Rattle.boot_words.proofs.Growing.{past_of_run}
@@ -33,7 +33,7 @@ same_seat t s s' is table later i = record { table = table i; pasts = (later ∙
 pub record SeesStock (zone : Zone) (z c : Past) (found : ℕ) (later : List Past) : Type 0 where
   pub fits : HasWord (stock_in ((local_seen zone c).parts c.number))
   pub word : found ≡ word_of (stock_in ((local_seen zone c).parts c.number))
-  pub few : ((local_seen zone c).parts c.number).book < 65536
+  pub few : ((local_seen zone c).parts c.number).book < group_base
   pub later_is : later ≡ z ∷ c ∷ []
 
 pub sees_stock : (t : KnownTable) (s : KnownPasts) (cpu : ℕ) → IsHeld t s → IsHolder s cpu

@@ -1,7 +1,7 @@
 -- Frames in transit, and visits.
 use Rattle.std.proofs.Common.{◌≡◌, ℕ, ◌==◌, ◌&&◌, ◌||◌, true, false, refl, sym, ◌∙◌, ap, inl, inr, eq-eqb}
 use Rattle.std.proofs.lemmas.Bool.{and_parts, ne_eqb, or_cases}
-use Rattle.frame_word.specs.ReferenceRule.{mark}
+use Rattle.frame_word.specs.Word.{mark}
 use Rattle.step_rules.specs.declared.phase.Hold.{Hold}
 use Rattle.step_rules.specs.declared.phase.Hold.TheVariants.{Unheld, HeldBy, Visiting}
 use Rattle.step_rules.specs.declared.phase.Way.TheVariants.{PassingOut, OnList}

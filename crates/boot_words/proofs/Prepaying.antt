@@ -7,10 +7,11 @@ use lib.ListN.{get_elem?}
 use prog.Atomic.{either}
 use Rattle.atomic_table.specs.Table.{State as Board}
 use Rattle.atomic_table.proofs.Lists.{exchanged}
-use Rattle.stock_word.specs.declared.view.Stock.{Stock}
-use Rattle.stock_word.specs.declared.view.Stock.TheVariants.{NoGroup, HeldBy, DrainedOf}
+use Rattle.stock_word.specs.declared.stock.Stock.{Stock}
+use Rattle.stock_word.specs.declared.stock.Stock.TheVariants.{NoGroup, HeldBy, DrainedOf}
 use Rattle.stock_word.specs.{HasWord, drained_of, word_of, stock_index}
 use Rattle.stock_word.proofs.Stocks.{held_word}
+use Rattle.stock_word.specs.Stock.{group_base}
 use Rattle.step_rules.specs.declared.step.Action.{Action}
 use Rattle.step_rules.specs.declared.step.Action.TheVariants.{Consume, Credit}
 use Rattle.step_rules.specs.declared.step.Answer.{Answer}
@@ -22,12 +23,11 @@ use Rattle.step_rules.proofs.Freeing.{zone_of_run}
 use Rattle.step_rules.proofs.LegalTests.{credit_tests}
 use Rattle.step_rules.proofs.Runs.{sound_run}
 use Rattle.boot_words.specs.{IsFast, HasSameOrDrained, IsRunOf, stock_in, stock_said, with_stock_word, ChangesWords, stock_word_at, words_in}
-use Rattle.boot_words.specs.{run_rule, MayDo, first_past, own_past, zone_of_boot, MayChange, Exchanges, IsAwayCpu, KnownCpuSeat, SawLast}
+use Rattle.boot_words.specs.{run_rule, MayDo, first_past, own_past, zone_of_boot, MayChange, Exchanges, IsAwayCpu, KnownCpuSeat, SawLast, KnownTable}
 use Rattle.boot_words.specs.declared.past.Past.{Past}
 use Rattle.boot_words.proofs.Away.{away_stays}
 use Rattle.boot_words.proofs.StockSteps.{stock_is_at, stock_low, stock_words_set}
 use Rattle.boot_words.specs.declared.word.Word.TheVariants.{StockOf}
-use Rattle.frame_word.specs.Seats.{KnownTable}
 use Rattle.boot_words.proofs.Calling.{made}
 use Rattle.boot_words.proofs.Fast.{Leaves, Made, legal_still, makes_on, past_begins}
 use Rattle.boot_words.proofs.Booking.{AreSmall}
@@ -119,9 +119,9 @@ not_zero n low none = absurd (omega (arith, low, none))
 
 exchange_page : (zone : Zone) (p : Past) (action : Action) (answer : Answer) (g n m : ℕ) → 1 ≤ p.number → p.number ≤ zone.cpus → IsFast action
     → is_legal (state_of zone p.seen) p.number action ≡ true → holds_lock p.number (state_of zone p.seen).hold ≡ false
-    → SawLast (stock_in ((state_of zone p.seen).parts p.number)) (HeldBy g n) → g < 64 → n < 65536
-    → ((s : State) → KeepsInvariant s → AreSmall s → is_legal s p.number action ≡ true → stock_in (s.parts p.number) ≡ HeldBy g n → m < 65536)
-    → ((words : List ℕ) → m < 65536 → stock_word_at (words_in zone words) p.number ≡ word_of (HeldBy g n)
+    → SawLast (stock_in ((state_of zone p.seen).parts p.number)) (HeldBy g n) → g < 64 → n < group_base
+    → ((s : State) → KeepsInvariant s → AreSmall s → is_legal s p.number action ≡ true → stock_in (s.parts p.number) ≡ HeldBy g n → m < group_base)
+    → ((words : List ℕ) → m < group_base → stock_word_at (words_in zone words) p.number ≡ word_of (HeldBy g n)
     → ChangesWords zone (words_in zone words) p.number action answer (with_stock_word (words_in zone words) p.number (word_of (HeldBy g m))))
     → ((words : List ℕ) → stock_word_at (words_in zone words) p.number ≡ word_of (DrainedOf g) → ChangesWords zone (words_in zone words) p.number action Drained (words_in zone words))
     → MayChange zone (p ∷ []) (StockOf p.number) (λ x. either (x == word_of (HeldBy g n)) (word_of (HeldBy g m)) x) (TellsPage zone p action answer (HeldBy g n) (HeldBy g m) (DrainedOf g))
@@ -141,7 +141,7 @@ exchange_page zone p action answer g n m low high fast legal away saw few before
     (λ hit word.
     let held : stock_in ((state_of zone k.run).parts q) ≡ HeldBy g n =
     same_word (stock_in ((state_of zone k.run).parts q)) (HeldBy g n) (k.is.stocks.has_word q low (subst (λ z. q ≤ z.cpus) (sym (zone_of_run zone k.run)) high)) (few, before_few) (sym now.word ∙ hit) in
-    let after_few : m < 65536 = room (state_of zone k.run) (sound_run zone k.run k.is.legal) k.small (legal_still zone s k id p action at ne fast legal) held in
+    let after_few : m < group_base = room (state_of zone k.run) (sound_run zone k.run k.is.legal) k.small (legal_still zone s k id p action at ne fast legal) held in
     let later : words_in zone (set s.words j x) ≡ with_stock_word (words_in zone s.words) q left = stock_words_set zone j x (stock_low zone q high) s.words ∙ ap (with_stock_word (words_in zone s.words) q) (sym word) in
     let r = makes_on zone s k id j x p action answer at ne fast legal
     (subst (ChangesWords zone (words_in zone s.words) q action answer) (sym later) (takes s.words after_few (now.reads ∙ hit))) in
@@ -197,7 +197,7 @@ pub may_consume : (zone : Zone) (p : Past) (g n : ℕ) → 1 ≤ p.number → p.
     → MayChange zone (p ∷ []) (StockOf p.number) (λ x. either (x == word_of (HeldBy g (n + 1))) (word_of (HeldBy g n)) x)
     (TellsPage zone p (Consume g) Took (HeldBy g (n + 1)) (HeldBy g n) (DrainedOf g))
 may_consume zone p g n low high legal away saw fits =
-    let few : n < 65536 = let b = fits.1 in omega (arith, b) in
+    let few : n < group_base = let b = fits.1 in omega (arith, b) in
     exchange_page zone p (Consume g) Took g (n + 1) n low high tt legal away saw fits.0 fits.1 (λ s sound small ok is. few)
     (λ words less found. (n, record { before_fits = fits; after_fits = (fits.0, few); found = found; later_is = refl }))
     (λ words found. record { fits = fits.0; found = found; later_is = refl })
@@ -216,7 +216,7 @@ pages_held (Some k) n true g m e = absurd (let a : DrainedOf k ≡ HeldBy g m = 
 pages_held (Some k) n false g m e = let a : HeldBy k n ≡ HeldBy g m = e in cc
 
 -- a stock of which a page is out has room for it
-page_fits : (s : State) (q f g n : ℕ) → KeepsInvariant s → AreSmall s → is_legal s q (Credit f) ≡ true → stock_in (s.parts q) ≡ HeldBy g n → n + 1 < 65536
+page_fits : (s : State) (q f g n : ℕ) → KeepsInvariant s → AreSmall s → is_legal s q (Credit f) ≡ true → stock_in (s.parts q) ≡ HeldBy g n → n + 1 < group_base
 page_fits s q f g n sound small legal is =
     let part = s.parts q in
     let pages : part.stock.pages ≡ n = pages_held part.stock.group part.stock.pages part.stock.is_drained g n is in
@@ -236,12 +236,12 @@ may_credit zone p f g n low high legal away saw fits =
     (λ words found. (g, record { fits = fits.0; found = found; later_is = refl }))
 
 -- ---- to the contracts of consume and credit
-pub consumes : (t : KnownTable) (c : KnownCpuSeat) (g n m : ℕ) → IsAwayCpu t c → MayDo t c.seat (Consume g) → c.last ≡ HeldBy g n → n ≡ m + 1
-    → MayChange (zone_of_boot t) c.seat.pasts (StockOf c.number) (λ x. either (x == word_of (HeldBy g n)) (word_of (HeldBy g m)) x)
-    (TellsPage (zone_of_boot t) (own_past c.seat) (Consume g) Took (HeldBy g n) (HeldBy g m) (DrainedOf g))
+pub consumes : (t : KnownTable) (c : KnownCpuSeat) (g n m : ℕ) → IsAwayCpu t c → MayDo t c.past (Consume g) → c.last ≡ HeldBy g n → n ≡ m + 1
+    → MayChange (zone_of_boot t) c.past.pasts (StockOf c.number) (λ x. either (x == word_of (HeldBy g n)) (word_of (HeldBy g m)) x)
+    (TellsPage (zone_of_boot t) (own_past c.past) (Consume g) Took (HeldBy g n) (HeldBy g m) (DrainedOf g))
 consumes t c g n m is legal last more =
     let zone = zone_of_boot t in
-    let p = own_past c.seat in
+    let p = own_past c.past in
     let at = is.number in
     let q = p.number in
     subst (λ (y : List Past × (ℕ × ℕ)). MayChange zone y.0 (StockOf y.1.0) (λ x. either (x == word_of (HeldBy g y.1.1)) (word_of (HeldBy g m)) x)
@@ -250,12 +250,12 @@ consumes t c g n m is legal last more =
     (subst (λ (y : ℕ × Stock). SawLast (stock_in ((state_of zone p.seen).parts y.0)) y.1) (λ i. (at i, (last ∙ ap (HeldBy g) more) i)) is.last)
     (subst HasWord (last ∙ ap (HeldBy g) more) is.has_word))
 
-pub credits : (t : KnownTable) (c : KnownCpuSeat) (f g n : ℕ) → IsAwayCpu t c → MayDo t c.seat (Credit f) → c.last ≡ HeldBy g n
-    → MayChange (zone_of_boot t) c.seat.pasts (StockOf c.number) (λ x. either (x == word_of (HeldBy g n)) (word_of (HeldBy g (n + 1))) x)
-    (TellsPage (zone_of_boot t) (own_past c.seat) (Credit f) Stocked (HeldBy g n) (HeldBy g (n + 1)) (DrainedOf g))
+pub credits : (t : KnownTable) (c : KnownCpuSeat) (f g n : ℕ) → IsAwayCpu t c → MayDo t c.past (Credit f) → c.last ≡ HeldBy g n
+    → MayChange (zone_of_boot t) c.past.pasts (StockOf c.number) (λ x. either (x == word_of (HeldBy g n)) (word_of (HeldBy g (n + 1))) x)
+    (TellsPage (zone_of_boot t) (own_past c.past) (Credit f) Stocked (HeldBy g n) (HeldBy g (n + 1)) (DrainedOf g))
 credits t c f g n is legal last =
     let zone = zone_of_boot t in
-    let p = own_past c.seat in
+    let p = own_past c.past in
     let at = is.number in
     subst (λ (y : List Past × ℕ). MayChange zone y.0 (StockOf y.1) (λ x. either (x == word_of (HeldBy g n)) (word_of (HeldBy g (n + 1))) x)
     (TellsPage zone p (Credit f) Stocked (HeldBy g n) (HeldBy g (n + 1)) (DrainedOf g))) (λ i. (sym is.past.alone i, sym at i))
@@ -264,12 +264,12 @@ credits t c f g n is legal last =
 
 -- the exchange was a step of the CPU
 pub exchanged_page : (t : KnownTable) (c : KnownCpuSeat) (action : Action) (answer : Answer) (stock : Stock) (c' : KnownCpuSeat) → IsAwayCpu t c → c'.number ≡ c.number → c'.last ≡ stock
-    → c'.seat.table ≡ c.seat.table → Knows (zone_of_boot t) (own_past c.seat) action answer stock c'.seat.pasts → Exchanges t c action answer stock c'
+    → c'.past.table ≡ c.past.table → Knows (zone_of_boot t) (own_past c.past) action answer stock c'.past.pasts → Exchanges t c action answer stock c'
 exchanged_page t c action answer stock c' is number last table k =
     let zone = zone_of_boot t in
-    let m = made t c.seat action answer c'.seat is.past table k.made in
-    let q : c'.number ≡ (own_past c.seat).number = number ∙ is.number in
-    let past : own_past c'.seat ≡ k.made.past = ap first_past k.made.later_is in record {
+    let m = made t c.past action answer c'.past is.past table k.made in
+    let q : c'.number ≡ (own_past c.past).number = number ∙ is.number in
+    let past : own_past c'.past ≡ k.made.past = ap first_past k.made.later_is in record {
       is = record {
         past = m.is_past;
         number = q ∙ sym m.grew.number;

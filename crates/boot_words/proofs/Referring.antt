@@ -7,12 +7,12 @@ use mathlib.Core.Option.{some}
 use lib.ListN.{get_elem?}
 use prog.Atomic.{either}
 use Rattle.atomic_table.proofs.Lists.{exchanged}
-use Rattle.frame_word.specs.ReferenceRule.{most_references}
+use Rattle.stock_word.specs.Stock.{group_base}
 use Rattle.step_rules.specs.declared.step.Action.{Action}
 use Rattle.step_rules.specs.declared.step.Action.TheVariants.{Get, Put}
 use Rattle.step_rules.specs.declared.step.Answer.{Answer}
 use Rattle.step_rules.specs.declared.step.Answer.TheVariants.{Held, Zero, Full, Left, Last}
-use Rattle.step_rules.specs.{Zone, live_references, one_if, get_answer, is_legal, Run, state_of, IsLegalRun, holds_lock}
+use Rattle.step_rules.specs.{Zone, live_references, one_if, get_answer, is_legal, Run, state_of, IsLegalRun, holds_lock, most_references}
 use Rattle.step_rules.proofs.Freeing.{zone_of_run}
 use Rattle.step_rules.proofs.LegalTests.{put_tests}
 use Rattle.step_rules.proofs.Referring.{live_from_one, seat_there}
@@ -85,7 +85,7 @@ pub record SawWord (zone : Zone) (p : Past) (f found : ℕ) (later : List Past) 
   pub more : SeesMore p past
   pub legal : IsLegalRun zone past.seen
   pub is : frame_word (state_of zone past.seen) f ≡ found
-  pub few : ((state_of zone p.seen).parts p.number).book < 65536
+  pub few : ((state_of zone p.seen).parts p.number).book < group_base
 
 -- what a get's load tells: it is the step itself if the word refuses a reference
 pub record Sees (zone : Zone) (p : Past) (f found : ℕ) (later : List Past) : Type 0 where
@@ -182,7 +182,7 @@ since zone p q action answer later more m = record {
 
 -- the earlier past still is a beginning of the run
 begins_since : (zone : Zone) (p q : Past) (run : Run) → SeesMore p q → (HasLock zone p → ⊥) → OthersFollow q.number q.seen run
-    → ((state_of zone p.seen).parts p.number).book < 65536 → BeginsRun zone run p
+    → ((state_of zone p.seen).parts p.number).book < group_base → BeginsRun zone run p
 begins_since zone p q run more away goes few = record {
   goes = record {
     rest = more.between ++ goes.rest;

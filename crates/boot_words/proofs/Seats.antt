@@ -2,10 +2,9 @@
 use Rattle.std.proofs.Common.{[], ◌≡◌, ℕ, zero, suc, ◌≤◌, List, ◌∷◌, set, ap, sym, arith}
 use mathlib.Core.Option.{some, some-injective, some-ne-none}
 use lib.ListN.{get_elem?}
-use Rattle.frame_word.specs.Totals.{sum_over, total_over}
-use Rattle.frame_word.proofs.Totals.{total_member, total_set}
 use Rattle.boot_words.specs.declared.past.Past.{Past}
-use Rattle.boot_words.specs.Rule.{AllOf, AllPasts, of_number}
+use Rattle.boot_words.specs.Rule.{AllOf, AllPasts, of_number, sum_over, total_over}
+use Rattle.boot_words.proofs.Totals.{total_member, total_set}
 
 -- the changed seat has all pasts that count, so a fact of the pasts that don't is kept
 module _ (P Q : Past → Type 0) (weight : Past → ℕ) (each : (u : Past) → weight u ≡ 0 → P u → Q u) where

@@ -1,7 +1,6 @@
 -- A CPU and the zone see the same run, and what a CPU knows then.
 use Rattle.std.proofs.Common.{[], ◌≡◌, ℕ, zero, suc, ◌+◌, ◌≤◌, true, List, ◌∷◌, ◌++◌, length, refl, ap, sym, ◌∙◌, subst, arith, inl}
 use Rattle.std.specs.Prelude.{slice_index}
-use Rattle.frame_word.specs.Seats.{KnownTable}
 use Rattle.step_rules.specs.declared.step.Step.{Step}
 use Rattle.step_rules.specs.declared.step.Action.TheVariants.{Lock}
 use Rattle.step_rules.specs.declared.step.Answer.{Answer}
@@ -12,7 +11,7 @@ use Rattle.step_rules.proofs.CoverParts.{own_part}
 use Rattle.step_rules.proofs.Runs.{legal_from, state_more}
 use Rattle.boot_words.specs.{SeesMore, hide, LeavesFree, HasNoStepOf, HasSameLists, stock_in, AllOf, BeginsRun, KnownPasts, IsCpuPast, IsZonePast}
 use Rattle.boot_words.specs.{Meets, cpu_past, first_past, local_by_pasts, own_past, second_past, zone_of_boot, MayChange, first_alone, rest_of}
-use Rattle.boot_words.specs.{IsAwayCpu, KnownCpuSeat, SawLast, cpu_at_first, cpus_at_first}
+use Rattle.boot_words.specs.{IsAwayCpu, KnownCpuSeat, SawLast, cpu_at_first, cpus_at_first, KnownTable}
 use Rattle.boot_words.specs.declared.past.Past.{Past}
 use Rattle.boot_words.specs.Pasts.{Locks}
 use Rattle.boot_words.proofs.Away.{away_stays}
@@ -90,11 +89,11 @@ met t z c z' c' pasts found zone cpu m zone_is cpu_is =
     }))
 
 -- what the CPU knows after others' steps
-pub knows_since : (t : KnownTable) (c : KnownCpuSeat) (s' : KnownPasts) → IsAwayCpu t c → IsCpuPast t s' → SeesMore (own_past c.seat) (own_past s')
-    → IsAwayCpu t (record { seat = s'; number = c.number; last = c.last })
+pub knows_since : (t : KnownTable) (c : KnownCpuSeat) (s' : KnownPasts) → IsAwayCpu t c → IsCpuPast t s' → SeesMore (own_past c.past) (own_past s')
+    → IsAwayCpu t (record { past = s'; number = c.number; last = c.last })
 knows_since t c s' is past more =
     let zone = zone_of_boot t in
-    let p = own_past c.seat in
+    let p = own_past c.past in
     let q = c.number in
     let stays = away_stays zone p.seen more.between q (subst (IsLegalRun zone) more.seen past.legal) (subst (λ k. HasNoStepOf k more.between) (sym is.number) more.others) is.away in
     let later : state_of zone (own_past s').seen ≡ state_of zone (p.seen ++ more.between) = ap (state_of zone) more.seen in record {
@@ -107,11 +106,11 @@ knows_since t c s' is past more =
     }
 
 -- what the CPU finds when it takes the lock is the stock that it saw last, or that one was drained since
-pub lock_finds : (t : KnownTable) (z : KnownPasts) (c : KnownCpuSeat) (s : KnownPasts) → IsAwayCpu t c → Locks t z c.seat s
+pub lock_finds : (t : KnownTable) (z : KnownPasts) (c : KnownCpuSeat) (s : KnownPasts) → IsAwayCpu t c → Locks t z c.past s
     → SawLast (stock_in ((local_by_pasts t s).parts c.number)) c.last
 lock_finds t z c s is m =
     let zone = zone_of_boot t in
-    let p = own_past c.seat in
+    let p = own_past c.past in
     let q = c.number in
     let between = m.cpu_grew.between in
     let before = p.seen ++ between in
@@ -144,16 +143,16 @@ firsts_away t cpu (suc n) low high = (first_away t cpu low (omega (arith, high))
 joined_pasts : (t : KnownTable) (z c s : KnownPasts) → IsZonePast t z → IsCpuPast t c → s.pasts ≡ z.pasts ++ c.pasts → s.pasts ≡ own_past z ∷ own_past c ∷ []
 joined_pasts t z c s zone cpu is = is ∙ (λ i. zone.alone i ++ cpu.alone i)
 
-pub lock_last : (t : KnownTable) (z : KnownPasts) (c : KnownCpuSeat) (s later : KnownPasts) (found : ℕ) → IsZonePast t z → IsAwayCpu t c → s.pasts ≡ z.pasts ++ c.seat.pasts → later.table ≡ t.table
+pub lock_last : (t : KnownTable) (z : KnownPasts) (c : KnownCpuSeat) (s later : KnownPasts) (found : ℕ) → IsZonePast t z → IsAwayCpu t c → s.pasts ≡ z.pasts ++ c.past.pasts → later.table ≡ t.table
     → Takes (zone_of_boot t) (own_past s) (cpu_past s) found later.pasts → SawLast (stock_in ((local_by_pasts t later).parts c.number)) c.last
 lock_last t z c s later found zone is joined table told =
-    lock_finds t z c later is (locked t z c.seat later found table
-    (subst (λ (l : List Past). Takes (zone_of_boot t) (first_past l) (second_past l) found later.pasts) (joined_pasts t z c.seat s zone is.past joined) told))
+    lock_finds t z c later is (locked t z c.past later found table
+    (subst (λ (l : List Past). Takes (zone_of_boot t) (first_past l) (second_past l) found later.pasts) (joined_pasts t z c.past s zone is.past joined) told))
 
-pub meet_knows : (t : KnownTable) (z : KnownPasts) (c : KnownCpuSeat) (s c' : KnownPasts) (pasts : List Past) (found : ℕ) → IsZonePast t z → IsAwayCpu t c → s.pasts ≡ z.pasts ++ c.seat.pasts
+pub meet_knows : (t : KnownTable) (z : KnownPasts) (c : KnownCpuSeat) (s c' : KnownPasts) (pasts : List Past) (found : ℕ) → IsZonePast t z → IsAwayCpu t c → s.pasts ≡ z.pasts ++ c.past.pasts
     → SeeSame (zone_of_boot t) (own_past s) (cpu_past s) found pasts → c' ≡ record { table = t.table; pasts = rest_of pasts }
-    → IsAwayCpu t (record { seat = c'; number = c.number; last = c.last })
+    → IsAwayCpu t (record { past = c'; number = c.number; last = c.last })
 meet_knows t z c s c' pasts found zone is joined told cpu_is =
-    let m = met t z c.seat (record { table = t.table; pasts = first_alone pasts }) c' pasts found zone is.past
-    (subst (λ (l : List Past). SeeSame (zone_of_boot t) (first_past l) (second_past l) found pasts) (joined_pasts t z c.seat s zone is.past joined) told) refl cpu_is in
+    let m = met t z c.past (record { table = t.table; pasts = first_alone pasts }) c' pasts found zone is.past
+    (subst (λ (l : List Past). SeeSame (zone_of_boot t) (first_past l) (second_past l) found pasts) (joined_pasts t z c.past s zone is.past joined) told) refl cpu_is in
     knows_since t c c' is m.cpu_is m.cpu_sees

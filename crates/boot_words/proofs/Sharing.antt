@@ -2,12 +2,11 @@
 use Rattle.std.proofs.Common.{[], ◌≡◌, ℕ, zero, suc, ◌+◌, List, ◌∷◌, ◌++◌, set, refl, ap, sym, ◌∙◌, arith}
 use lib.ListN.{get_elem?}
 use Rattle.atomic_table.specs.Table.{Joins, Splits}
-use Rattle.frame_word.specs.Totals.{join_of, split_of, sum_over, total_over}
-use Rattle.frame_word.proofs.Totals.{join_totals, total_more, total_set}
 use Rattle.step_rules.specs.State.{Zone}
 use Rattle.boot_words.specs.declared.past.Past.{Past}
-use Rattle.boot_words.specs.{AllOf, AllPasts, BeginsRun, RunRule, run_rule, of_number, first_alone, rest_of}
+use Rattle.boot_words.specs.{AllOf, AllPasts, BeginsRun, RunRule, run_rule, of_number, sum_over, total_over, first_alone, rest_of}
 use Rattle.boot_words.proofs.Each.{all_at, all_set, all_append}
+use Rattle.boot_words.proofs.Totals.{total_join, total_more, total_set}
 
 -- in which seat a past is doesn't matter to the rule
 moved : (zone : Zone) (words : List ℕ) (seats later : List (List Past)) → ((q : ℕ) → total_over (of_number q) later ≡ total_over (of_number q) seats)
@@ -27,7 +26,7 @@ pub split_allowed : {S : Type 0} (zone : Zone) (id : ℕ) (pasts left right : Li
 split_allowed zone id pasts left right sums parts s k at =
     let P : List Past → Type 0 = AllOf (BeginsRun zone k.run) in
     let dealt = parts (BeginsRun zone k.run) (all_at P s.views id pasts at k.fits) in
-    moved zone s.words s.views (split_of s.views id left right)
+    moved zone s.words s.views (set s.views id left ++ right ∷ [])
     (λ q. omega (arith, total_more (of_number q) (set s.views id left) right, total_set (of_number q) s.views id pasts left at, sums (of_number q))) k
     (all_append P (set s.views id left) (right ∷ []) (all_set P s.views id left dealt.0 k.fits) (dealt.1, tt))
 
@@ -51,5 +50,5 @@ join_allowed zone id other pasts taken s k at apart there =
     let P : List Past → Type 0 = AllOf (BeginsRun zone k.run) in
     let own = all_at P s.views id pasts at k.fits in
     let others = all_at P s.views other taken (sym (at_other s.views id other (pasts ++ taken) apart) ∙ there) k.fits in
-    moved zone s.words s.views (join_of s.views id pasts other taken) (λ q. join_totals s.views id other pasts taken at there (of_number q)) k
+    moved zone s.words s.views (set (set s.views id (pasts ++ taken)) other []) (λ q. total_join (of_number q) s.views id other pasts taken at there) k
     (all_set P (set s.views id (pasts ++ taken)) other [] tt (all_set P s.views id (pasts ++ taken) (all_append (BeginsRun zone k.run) pasts taken own others) k.fits))

@@ -1,6 +1,6 @@
 -- What a CPU sees is the hidden state with its own part shown.
 use Rattle.std.proofs.Common.{◌≡◌, ◌≢◌, ℕ, ◌==◌, ◌&&◌, ◌||◌, Bool, true, false, cond, Some, Option, refl, sym, ap, ◌∙◌, inl, inr, eq-eqb}
-use Rattle.std.specs.Prelude.{nat_le}
+use Rattle.std.specs.Prelude.{nat_le, unwrap_or}
 use Rattle.std.proofs.lemmas.Bool.{cases_eq, ne_eqb}
 use Rattle.step_rules.specs.declared.phase.ChargedUnit.{ChargedUnit}
 use Rattle.step_rules.specs.declared.phase.Way.{Way}
@@ -16,20 +16,20 @@ use Rattle.step_rules.specs.State.{State}
 use Rattle.step_rules.proofs.Basics.{at_each, same_state}
 use Rattle.step_rules.proofs.CoverParts.{own_part, other_part, own_reference}
 use Rattle.step_rules.proofs.Runs.{sound_run}
-use Rattle.boot_words.specs.{hide, hide_phase, show_own, show_phase, zone_references, group_or_0, HolderSeesBoth}
+use Rattle.boot_words.specs.{hide, hide_phase, show_own, show_phase, zone_references, HolderSeesBoth}
 
 none_back : (h f : ℕ) (part : Part) (unit : ChargedUnit) (stage : Stage) → times f part.back ≡ 0 → Head unit stage ≡ show_phase h part f (Head unit stage)
 none_back h f part unit stage e = ap (λ n. cond (nat_le 1 n) (Head unit (BackAt h)) (Head unit stage)) (sym e)
 
 none_fresh : (h f q : ℕ) (part : Part) (way : Way) → times f part.fresh ≡ 0 → Lent q way ≡ show_phase h part f (Lent q way)
-none_fresh h f q part way e = and_no (q == h) ∙ ap (λ n. cond (q == h && nat_le 1 n) (Head (record { group = group_or_0 part.stock.group; order = 0 }) (FreshAt q)) (Lent q way)) (sym e)
+none_fresh h f q part way e = and_no (q == h) ∙ ap (λ n. cond (q == h && nat_le 1 n) (Head (record { group = unwrap_or part.stock.group 0; order = 0 }) (FreshAt q)) (Lent q way)) (sym e)
   where
-    and_no : (b : Bool) → Lent q way ≡ cond (b && nat_le 1 0) (Head (record { group = group_or_0 part.stock.group; order = 0 }) (FreshAt q)) (Lent q way)
+    and_no : (b : Bool) → Lent q way ≡ cond (b && nat_le 1 0) (Head (record { group = unwrap_or part.stock.group 0; order = 0 }) (FreshAt q)) (Lent q way)
     and_no true = refl
     and_no false = refl
 
-same_unit : (u : ChargedUnit) (group : Option ℕ) → group ≡ Some u.group → u.order ≡ 0 → u ≡ record { group = group_or_0 group; order = 0 }
-same_unit u group is order i = record { group = group_or_0 (sym is i); order = order i }
+same_unit : (u : ChargedUnit) (group : Option ℕ) → group ≡ Some u.group → u.order ≡ 0 → u ≡ record { group = unwrap_or group 0; order = 0 }
+same_unit u group is order i = record { group = unwrap_or (sym is i) 0; order = order i }
 
 both_at : (h f : ℕ) (part : Part) (groups : ℕ → Option ℕ) (cpus : ℕ) (x : Phase) → groups h ≡ part.stock.group → PhasePaid cpus groups x
     → times f part.fresh ≡ one_if (has_as FreshFrame h x) → times f part.back ≡ one_if (has_as BackFrame h x) → phase_seen_by h x ≡ show_phase h part f (hide_phase x)
@@ -43,7 +43,7 @@ both_at h f part groups cpus (Head u (FreshAt q)) g paid fresh back =
           let one : times f part.fresh ≡ 1 = fresh ∙ ap one_if on in
           let unit = same_unit u part.stock.group (sym g ∙ ap groups (sym e) ∙ paid.group) paid.order in
           ap (λ b. cond b (Head u (FreshAt q)) (Lent q OnList)) on ∙ ap (λ v. Head v (FreshAt q)) unit
-          ∙ sym ((λ i. cond (on i && nat_le 1 (one i)) (Head (record { group = group_or_0 part.stock.group; order = 0 }) (FreshAt q)) (Lent q OnList)))
+          ∙ sym ((λ i. cond (on i && nat_le 1 (one i)) (Head (record { group = unwrap_or part.stock.group 0; order = 0 }) (FreshAt q)) (Lent q OnList)))
       | inr ne ↦
           let off : (q == h) ≡ false = ne_eqb q h ne in
           ap (λ b. cond b (Head u (FreshAt q)) (Lent q OnList)) off ∙ none_fresh h f q part OnList (fresh ∙ ap one_if off)

@@ -1,12 +1,17 @@
 -- The rule of the one table after an atomic step on a word of a stock.
 use Rattle.std.proofs.Common.{◌≡◌, ℕ, ◌≤◌, List, set, arith, ◌<◌, take}
+use Rattle.std.specs.Prelude.{slice_index}
 use Rattle.std.proofs.lemmas.List.{drop-set-lt, get_or-take}
 use Rattle.std.proofs.Math.Seq.{take-set-lt}
-use Rattle.stock_word.specs.StockRule.{report_index, stock_index}
+use Rattle.stock_word.specs.Stock.{report_index, stock_index}
 use Rattle.step_rules.specs.State.{Zone}
 use Rattle.boot_words.specs.Words.{Words}
 use Rattle.boot_words.specs.Rule.{frame_base, words_in}
-use Rattle.boot_words.proofs.Lifting.{IsAt}
+
+-- word i of the part is word j of the table
+pub record IsAt (front : List ℕ → List ℕ) (i j : ℕ) : Type 0 where
+  pub reads : (ws : List ℕ) → slice_index (front ws) i ≡ slice_index ws j
+  pub writes : (ws : List ℕ) (x : ℕ) → front (set ws j x) ≡ set (front ws) i x
 
 -- a CPU's words are in its row, below the words of the frames
 pub stock_low : (zone : Zone) (cpu : ℕ) → cpu ≤ zone.cpus → stock_index cpu < frame_base zone

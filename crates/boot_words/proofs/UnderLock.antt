@@ -5,14 +5,13 @@ use Rattle.std.proofs.lemmas.List.{set-get_or}
 use mathlib.Core.Option.{some, some-ne-none}
 use lib.ListN.{get_elem?}
 use Rattle.atomic_table.specs.Table.{State as Board, keeps}
-use Rattle.frame_word.specs.Seats.{KnownTable}
 use Rattle.step_rules.specs.declared.step.Step.{Step}
 use Rattle.step_rules.specs.declared.step.Action.{Action}
 use Rattle.step_rules.specs.declared.step.Action.TheVariants.{Fill}
 use Rattle.step_rules.specs.declared.step.Answer.{Answer}
 use Rattle.step_rules.specs.{Zone, Allows, is_legal, after, state_of, ShowsLocal, is_of_lock}
 use Rattle.boot_words.specs.{OthersFollow, IsRunOf, ChangesWords, IsPlain, GrewUnderLock, HoldsLock, local_seen, AllOf, words_in, BeginsRun, RunRule}
-use Rattle.boot_words.specs.{run_rule, KnownPasts, IsHeld, MakesStep, cpu_past, own_past, zone_of_boot, MayChange}
+use Rattle.boot_words.specs.{run_rule, KnownPasts, IsHeld, MakesStep, cpu_past, own_past, zone_of_boot, MayChange, KnownTable}
 use Rattle.boot_words.specs.declared.past.Past.{Past}
 use Rattle.boot_words.proofs.Grown.{grown}
 use Rattle.boot_words.proofs.Plain.{plain_steps_keep_words}

@@ -1,9 +1,10 @@
 -- The visit of the lock's holder, the frames that it hands over, and the pages that its stock pays.
 use Rattle.std.proofs.Common.{◌≡◌, ℕ, ◌+◌, ◌-◌, ◌%◌, ◌^◌, ◌<◌, ◌≤◌, true, List, set, refl, ap, sym, ◌∙◌, subst, arith, inl, inr}
 use Rattle.std.specs.Prelude.{slice_index}
-use Rattle.frame_word.specs.{mark, visit_index, KnownTable}
-use Rattle.stock_word.specs.declared.view.Stock.TheVariants.{HeldBy}
+use Rattle.frame_word.specs.{mark, visit_index}
+use Rattle.stock_word.specs.declared.stock.Stock.TheVariants.{HeldBy}
 use Rattle.stock_word.specs.{HasWord, word_of, stock_index}
+use Rattle.stock_word.specs.Stock.{group_base}
 use Rattle.step_rules.specs.declared.step.Action.TheVariants.{Collect, Consume, OpenVisit, PassBack, ShutVisit}
 use Rattle.step_rules.specs.declared.step.Answer.TheVariants.{Done, Took}
 use Rattle.step_rules.specs.State.{State}
@@ -14,7 +15,7 @@ use Rattle.step_rules.proofs.Keeping.{homed_run}
 use Rattle.step_rules.proofs.LegalTests.{collect_tests, pass_back_tests}
 use Rattle.step_rules.proofs.SoundSteps.{below_frames, cpu_range}
 use Rattle.boot_words.specs.{stock_in, stock_said, with_stock_word, ChangesWords, stock_word_at, local_seen, frame_base, words_in, KnownPasts, IsHeld}
-use Rattle.boot_words.specs.{IsHolder, MakesStep, MayMake, cpu_past, local_by_pasts, own_past, zone_of_boot, MayChange}
+use Rattle.boot_words.specs.{IsHolder, MakesStep, MayMake, cpu_past, local_by_pasts, own_past, zone_of_boot, MayChange, KnownTable}
 use Rattle.boot_words.specs.declared.past.Past.{Past}
 use Rattle.boot_words.proofs.Parts.{words_set}
 use Rattle.boot_words.proofs.StockSteps.{stock_is_at, stock_low, stock_words_set}
@@ -115,7 +116,7 @@ pub record StockHeld (zone : Zone) (words : List ℕ) (c : Past) : Type 0 where
   pub fits : HasWord (stock_in ((local_seen zone c).parts c.number))
   pub word : slice_index words (stock_index c.number) ≡ word_of (stock_in ((local_seen zone c).parts c.number))
   pub reads : stock_word_at (words_in zone words) c.number ≡ slice_index words (stock_index c.number)
-  pub few : ((local_seen zone c).parts c.number).book < 65536
+  pub few : ((local_seen zone c).parts c.number).book < group_base
 
 pub stock_held : (zone : Zone) (words : List ℕ) (seats : List (List Past)) (id : ℕ) (z c : Past) → 1 ≤ c.number → c.number ≤ zone.cpus → (st : Stands zone words seats id z c)
     → StockHeld zone words c
@@ -131,7 +132,7 @@ stock_held zone words seats id z c low high st =
       fits = subst (λ p. HasWord (stock_in p)) (sym own) (is.stocks.has_word q low within);
       word = sym reads ∙ is.stocks.stock q low within ∙ ap (λ p. word_of (stock_in p)) (sym own);
       reads = reads;
-      few = subst (λ p. p.book < 65536) (sym own) (st.rule.small q);
+      few = subst (λ p. p.book < group_base) (sym own) (st.rule.small q);
     }
 
 one_less : (x y : ℕ) → x ≡ y + 1 → x < 18446744073709551616 → (x + (2 ^ 64 - 1)) % 2 ^ 64 ≡ y
@@ -167,7 +168,7 @@ takes_held t s cpu g is holder pays legal =
     let low = stock_low zone q range.1 in
     let found : slice_index b.words j ≡ word_of (HeldBy g (n + 1)) = h.word ∙ ap word_of stock in
     let fits : HasWord (HeldBy g (n + 1)) = subst HasWord stock h.fits in
-    let few : n < 65536 = let b = fits.1 in omega (arith, b) in
+    let few : n < group_base = let b = fits.1 in omega (arith, b) in
     let less : (slice_index b.words j + (2 ^ 64 - 1)) % 2 ^ 64 ≡ word_of (HeldBy g n) = one_less (slice_index b.words j) (word_of (HeldBy g n)) (found ∙ held_more g n) small in
     held_makes zone b k id j ((slice_index b.words j + (2 ^ 64 - 1)) % 2 ^ 64) z c (record { seat = q; action = Consume g }) Took at is.holds (inr refl) refl tt
     (subst (λ k. MayMake t s k (Consume g)) holder legal) (

@@ -2,8 +2,8 @@
 use Rattle.std.proofs.Common.{◌≡◌, ◌≢◌, ℕ, ◌+◌, ◌-◌, ◌*◌, ◌<◌, ◌≤◌, List, length, set, sym, ◌∙◌, ap, subst, arith, inl, inr, length-set, get_or-set_other, get_or-set_same}
 use Rattle.std.specs.Prelude.{slice_index, slice_set}
 use Rattle.std.proofs.lemmas.Bool.{cases_eq}
-use Rattle.frame_word.specs.ReferenceRule.{visit_index}
-use Rattle.stock_word.specs.declared.view.Stock.{Stock}
+use Rattle.frame_word.specs.Word.{visit_index}
+use Rattle.stock_word.specs.declared.stock.Stock.{Stock}
 use Rattle.stock_word.specs.{word_of, HasWord, stock_index, report_index}
 use Rattle.step_rules.specs.State.{State, Part}
 use Rattle.boot_words.specs.Words.{AreFrameWords, AreStockWords, frame_word, visit_word, stock_in}

@@ -5,8 +5,7 @@ use Rattle.std.proofs.lemmas.Bool.{cond-false, cond-true, ne_eqb}
 use Rattle.std.proofs.lemmas.List.{set-get_or}
 use prog.Atomic.{either}
 use Rattle.atomic_table.proofs.Lists.{exchanged}
-use Rattle.frame_word.specs.Seats.{KnownTable}
-use Rattle.stock_word.specs.declared.view.Stock.TheVariants.{HeldBy}
+use Rattle.stock_word.specs.declared.stock.Stock.TheVariants.{HeldBy}
 use Rattle.stock_word.specs.{HasWord, word_of, stock_index}
 use Rattle.step_rules.specs.declared.step.Action.TheVariants.{Fill, Freeze, Unfreeze}
 use Rattle.step_rules.specs.declared.step.Answer.TheVariants.{Done, Missed}
@@ -17,7 +16,7 @@ use Rattle.step_rules.proofs.LegalTests.{freeze_tests, unfreeze_tests}
 use Rattle.step_rules.proofs.SoundSteps.{below_frames}
 use Rattle.boot_words.specs.Words.{Words}
 use Rattle.boot_words.specs.{with_frame_word, ChangesWords, frame_word_at, freeze_answer, local_seen, frame_base, words_in, KnownPasts, IsHeld}
-use Rattle.boot_words.specs.{MakesStep, MayMake, cpu_past, freeze_said, local_by_pasts, own_past, zone_of_boot, MayChange}
+use Rattle.boot_words.specs.{MakesStep, MayMake, cpu_past, freeze_said, local_by_pasts, own_past, zone_of_boot, MayChange, KnownTable}
 use Rattle.boot_words.specs.declared.past.Past.{Past}
 use Rattle.boot_words.proofs.Parts.{frame_reads, words_set}
 use Rattle.boot_words.proofs.StockSteps.{stock_low, stock_words_set}

@@ -2,20 +2,21 @@
 use Rattle.std.specs.Prelude.{◌≡◌, ◌≢◌, ℕ, ◌<◌, ◌≤◌}
 use Rattle.frame_word.specs.declared.answers.Get.{Get}
 use Rattle.frame_word.specs.declared.answers.Get.TheVariants as gets
-use Rattle.frame_word.specs.{most_references, KnownTable}
 use Rattle.step_rules.specs.declared.step.Action.{Action}
 use Rattle.step_rules.specs.declared.step.Action.TheVariants as step
 use Rattle.step_rules.specs.declared.step.Answer.{Answer}
 use Rattle.step_rules.specs.declared.step.Answer.TheVariants.{Full, Held, Zero}
-use Rattle.step_rules.specs.{Zone, Run, state_of, IsLegalRun}
+use Rattle.step_rules.specs.{Zone, Run, state_of, IsLegalRun, most_references}
 use Rattle.boot_words.specs.Runs.{GrewBy, OthersFollow}
 use Rattle.boot_words.specs.Words.{frame_word}
 use Rattle.boot_words.specs.declared.past.Past.{Past}
 use Rattle.boot_words.specs.Pasts.{KnownPasts, own_past, IsCpuPast}
 use Rattle.boot_words.specs.Seats.{zone_of_boot}
+use Rattle.boot_words.specs.Tables.{KnownTable}
 
 -- a call by the CPU's seat was this step, with this answer
-pub record CpuMakes (t : KnownTable) (s : KnownPasts) (action : Action) (answer : Answer) (s' : KnownPasts) : Type 0 where
+pub record CpuMakes (t : KnownTable) (s : KnownPasts) (action : Action) (answer : Answer) (s' : KnownPasts)
+    : Type 0 where
   pub is_past : IsCpuPast t s'
   pub grew : GrewBy (own_past s) (record { seat = (own_past s).number; action = action }) answer (own_past s')
 

@@ -1,28 +1,24 @@
 -- Several steps of the run that one atomic step makes under the lock: the table of these lists, and what each leaves.
 use Rattle.std.specs.Prelude.{[], ◌≡◌, ℕ, true, ◌∷◌}
-use Rattle.frame_word.specs.Seats.{KnownTable}
 use Rattle.step_rules.specs.declared.step.Step.{Step}
 use Rattle.step_rules.specs.declared.step.Action.{Action}
 use Rattle.step_rules.specs.declared.step.Action.TheVariants.{PassOut, TakeIn, Absorb, Collect, PassBack, Report}
 use Rattle.step_rules.specs.declared.step.Answer.{Answer}
 use Rattle.step_rules.specs.declared.step.Answer.TheVariants.{Done, Pages}
-use Rattle.step_rules.specs.{Zone, is_legal, Run, after}
+use Rattle.step_rules.specs.{Zone, is_legal, Run, after, zone_makes, cpu_makes}
 use Rattle.step_rules.specs.State.{State}
 use Rattle.boot_words.specs.declared.past.Past.{Past}
 use Rattle.boot_words.specs.Runs.{GrewBy}
 use Rattle.boot_words.specs.Held.{HoldsLock, local_seen}
 use Rattle.boot_words.specs.Pasts.{KnownPasts, IsHeld, cpu_past, own_past}
 use Rattle.boot_words.specs.Seats.{zone_of_boot}
+use Rattle.boot_words.specs.Tables.{KnownTable}
 
 -- ---- the table: the steps of each list, in their order
 
--- a step of this seat that is answered Done
-abbrev pub answered_done : ℕ → Action → Step × Answer
-answered_done seat action = (record { seat = seat; action = action }, Done)
-
 -- a frame of the zone's hand is lent to the CPU: its word is 0 before and after, so no word changes
 abbrev pub lend_run : ℕ → ℕ → Run
-lend_run cpu f = answered_done 0 (PassOut f cpu) ∷ answered_done cpu (TakeIn f) ∷ []
+lend_run cpu f = zone_makes (PassOut f cpu) Done ∷ cpu_makes cpu (TakeIn f) Done ∷ []
 
 -- ---- what each list requires and leaves
 
@@ -53,5 +49,5 @@ pub record MakesInTurn (t : KnownTable) (s : KnownPasts) (steps : Run) (s' : Kno
 -- The CPU passes back a fresh frame and reports its page; the zone collects the frame and absorbs the page. The frame's
 -- word and the report word are 0 before and after, so no word changes.
 abbrev pub take_back_run : ℕ → ℕ → Run
-take_back_run cpu f = answered_done cpu (PassBack f) ∷ answered_done cpu (Report 1) ∷ answered_done 0 (Collect f cpu)
-    ∷ (record { seat = 0; action = Absorb cpu }, Pages 1) ∷ []
+take_back_run cpu f = cpu_makes cpu (PassBack f) Done ∷ cpu_makes cpu (Report 1) Done ∷ zone_makes (Collect f cpu) Done
+    ∷ zone_makes (Absorb cpu) (Pages 1) ∷ []

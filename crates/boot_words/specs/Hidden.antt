@@ -1,6 +1,6 @@
 -- What is left of the state if every CPU's own part is hidden, and that state with one CPU's own part shown. `seen_by 0`
 -- would not do: it shows the fresh and back frames of number 0.
-use Rattle.std.specs.Prelude.{ℕ, ◌==◌, ◌&&◌, nat_le, Option, Some, None, if◌then◌else◌}
+use Rattle.std.specs.Prelude.{ℕ, ◌==◌, ◌&&◌, nat_le, if◌then◌else◌, unwrap_or}
 use Rattle.step_rules.specs.declared.phase.ChargedUnit.{ChargedUnit}
 use Rattle.step_rules.specs.declared.phase.Way.TheVariants.{OnList}
 use Rattle.step_rules.specs.declared.phase.Stage.{Stage}
@@ -41,16 +41,12 @@ hide s = record s {
   parts = λ cpu. other_part_seen (s.parts cpu);
 }
 
--- the group of a stock, and 0 if it has none
-abbrev pub group_or_0 : Option ℕ → ℕ
-group_or_0 None = 0
-group_or_0 (Some g) = g
-
 -- the hidden phase of a frame, with the CPU's own fresh and back frames shown, by its part
 abbrev pub show_phase : ℕ → Part → ℕ → Phase → Phase
 show_phase cpu part f (Lent other way) = if other == cpu && nat_le 1 (times f part.fresh)
-    then Head (record { group = group_or_0 part.stock.group; order = 0 }) (FreshAt other) else Lent other way
-show_phase cpu part f (Head unit stage) = if nat_le 1 (times f part.back) then Head unit (BackAt cpu) else Head unit stage
+    then Head (record { group = unwrap_or part.stock.group 0; order = 0 }) (FreshAt other) else Lent other way
+show_phase cpu part f (Head unit stage) =
+    if nat_le 1 (times f part.back) then Head unit (BackAt cpu) else Head unit stage
 show_phase cpu part f InZone = InZone
 show_phase cpu part f (Tail g) = Tail g
 

@@ -12,5 +12,5 @@ LeavesFree zone z = is_unheld (state_of zone z.seen).hold ≡ true
 -- While nobody holds the lock, all steps are fast ones of CPUs. So what is left if every CPU's own part is hidden is as
 -- the zone's past left it.
 abbrev pub ZoneRests : Type 0
-ZoneRests = (zone : Zone) (run : Run) (z : Past) → IsLegalRun zone run → IsPastOf run z → z.number ≡ 0 → LeavesFree zone z
-    → hide (state_of zone run) ≡ hide (state_of zone z.seen)
+ZoneRests = (zone : Zone) (run : Run) (z : Past) → IsLegalRun zone run → IsPastOf run z → z.number ≡ 0
+    → LeavesFree zone z → hide (state_of zone run) ≡ hide (state_of zone z.seen)

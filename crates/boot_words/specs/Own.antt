@@ -10,6 +10,6 @@ use Rattle.boot_words.specs.declared.past.Past.{Past}
 -- A CPU's step without the lock makes of its lists and references what it makes of those that its past left, whatever
 -- others did since.
 abbrev pub OwnPartFollows : Type 0
-OwnPartFollows = (zone : Zone) (p : Past) (action : Action) (answer : Answer) (later : Past) → p.number ≢ 0 → IsFast action
-    → GrewBy p (record { seat = p.number; action = action }) answer later
+OwnPartFollows = (zone : Zone) (p : Past) (action : Action) (answer : Answer) (later : Past) → p.number ≢ 0
+    → IsFast action → GrewBy p (record { seat = p.number; action = action }) answer later
     → HasSameLists p.number (after (state_of zone p.seen) p.number action answer) (state_of zone later.seen)

@@ -5,11 +5,6 @@ use Rattle.frame_word.specs.declared.answers.Get.{Get}
 use Rattle.frame_word.specs.declared.answers.Get.TheVariants as gets
 use Rattle.frame_word.specs.declared.answers.Put.{Put}
 use Rattle.frame_word.specs.declared.answers.Put.TheVariants as puts
-use Rattle.frame_word.specs.Seats.{KnownTable}
-use Rattle.stock_word.specs.declared.words.Consume.{Consume}
-use Rattle.stock_word.specs.declared.words.Consume.TheVariants as consumes
-use Rattle.stock_word.specs.declared.words.Credit.{Credit}
-use Rattle.stock_word.specs.declared.words.Credit.TheVariants as credits
 use Rattle.step_rules.specs.declared.phase.Hold.TheVariants.{HeldBy, Unheld}
 use Rattle.step_rules.specs.declared.step.Action.{Action}
 use Rattle.step_rules.specs.declared.step.Action.TheVariants.{Lock, Unlock}
@@ -25,6 +20,7 @@ use Rattle.boot_words.specs.Seats.{zone_of_boot}
 use Rattle.boot_words.specs.Held.{HoldsLock, local_seen}
 use Rattle.boot_words.specs.Locks.{LeavesFree}
 use Rattle.boot_words.specs.Growth.{SeesMore}
+use Rattle.boot_words.specs.Tables.{KnownTable}
 
 -- a seat's pasts: its own, or the zone's and then that of the CPU that holds the lock, or none while the zone's has it
 pub record KnownPasts : Type 0 where
@@ -134,7 +130,8 @@ pub record Unlocks (t : KnownTable) (held zone cpu : KnownPasts) : Type 0 where
   pub cpu_is : IsCpuPast t cpu
   pub same : (own_past zone).seen ≡ (own_past cpu).seen
   pub free : LeavesFree (zone_of_boot t) (own_past zone)
-  pub left : hide (state_of (zone_of_boot t) (own_past zone).seen) ≡ hide (record (local_by_pasts t held) { hold = Unheld })
+  pub left : hide (state_of (zone_of_boot t) (own_past zone).seen)
+      ≡ hide (record (local_by_pasts t held) { hold = Unheld })
 
 -- A CPU, which doesn't hold the lock, and the zone, by whose past the lock is free, now see the same run: all that either
 -- saw, and perhaps more steps of others. Nothing of the two has changed otherwise: what the zone's past left if every CPU's
@@ -146,6 +143,7 @@ pub record Meets (t : KnownTable) (zone cpu zone' cpu' : KnownPasts) : Type 0 wh
   pub cpu_sees : SeesMore (own_past cpu) (own_past cpu')
   pub same : (own_past zone').seen ≡ (own_past cpu').seen
   pub free : LeavesFree (zone_of_boot t) (own_past zone')
-  pub left : hide (state_of (zone_of_boot t) (own_past zone').seen) ≡ hide (state_of (zone_of_boot t) (own_past zone).seen)
+  pub left : hide (state_of (zone_of_boot t) (own_past zone').seen)
+      ≡ hide (state_of (zone_of_boot t) (own_past zone).seen)
   pub own : HasSameLists (own_past cpu).number (state_of (zone_of_boot t) (own_past cpu).seen)
       (state_of (zone_of_boot t) (own_past cpu').seen)

@@ -1,6 +1,6 @@
 -- The words of the one table, its rule, which keeps a legal run, and what each seat has seen of that run.
 use Rattle.std.specs.Prelude.{[], ◌≡◌, ℕ, ◌+◌, ◌*◌, ◌==◌, false, List, ◌∷◌, take, drop, ◌⊎◌, ◌<◌, nat_le, true, length}
-use Rattle.frame_word.specs.Totals.{total_over}
+use Rattle.stock_word.specs.Stock.{group_base}
 use Rattle.step_rules.specs.{Zone, one_if, Run, state_of, is_of_lock, holds_lock}
 use Rattle.boot_words.specs.Runs.{OthersFollow, IsFast}
 use Rattle.boot_words.specs.Words.{Words, IsRunOf}
@@ -31,7 +31,7 @@ pub record IsPastOf (run : Run) (p : Past) : Type 0 where
   pub goes : OthersFollow p.number p.seen run
   pub leaves_lock : p.number ≡ 0 → LeavesLock goes.rest
 
--- P holds of each
+-- P holds of each, by the list's form, as proofs take it apart
 abbrev pub AllOf : {A : Type 0} → (A → Type 0) → List A → Type 0
 AllOf P [] = Unit {0}
 AllOf P (x ∷ xs) = P x × AllOf P xs
@@ -50,7 +50,16 @@ HasLock zone p = (p.number ≡ 0) ⊎ (holds_lock p.number (state_of zone p.seen
 pub record BeginsRun (zone : Zone) (run : Run) (p : Past) : Type 0 where
   pub goes : OthersFollow p.number p.seen run
   pub fast : HasLock zone p → AreFast goes.rest
-  pub few : ((state_of zone p.seen).parts p.number).book < 65536
+  pub few : ((state_of zone p.seen).parts p.number).book < group_base
+
+-- the sum of f over a list
+abbrev pub sum_over : {A : Type 0} → (A → ℕ) → List A → ℕ
+sum_over f [] = 0
+sum_over f (x ∷ xs) = f x + sum_over f xs
+
+-- the total of f over all pasts of all seats
+abbrev pub total_over : {A : Type 0} → (A → ℕ) → List (List A) → ℕ
+total_over f seats = sum_over (λ pasts. sum_over f pasts) seats
 
 -- how often the past counts among those of the number: once or not at all
 abbrev pub of_number : ℕ → Past → ℕ
@@ -66,7 +75,7 @@ pub record RunRule (zone : Zone) (words : List ℕ) (seats : List (List Past)) :
   pub run : Run
   pub is : IsRunOf zone (words_in zone words) run
   pub wide : length words ≡ word_count zone
-  pub small : (cpu : ℕ) → ((state_of zone run).parts cpu).book < 65536
+  pub small : (cpu : ℕ) → ((state_of zone run).parts cpu).book < group_base
   pub one_past : (number : ℕ) → total_over (of_number number) seats ≡ one_if (nat_le number zone.cpus)
   pub fits : AllPasts (BeginsRun zone run) seats
 

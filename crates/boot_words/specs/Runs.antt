@@ -1,5 +1,5 @@
 -- A run that others continue.
-use Rattle.std.specs.Prelude.{[], ◌≡◌, ◌≢◌, ℕ, ◌==◌, ◌++◌, Bool, false, ◌∷◌, ◌+◌}
+use Rattle.std.specs.Prelude.{[], ◌≡◌, ◌≢◌, ℕ, ◌==◌, ◌++◌, Bool, false, ◌∷◌}
 use Rattle.step_rules.specs.declared.step.Action.{Action}
 use Rattle.step_rules.specs.declared.step.Action.TheVariants.{Get, Put, Consume, Credit, Absorb, Fill}
 use Rattle.step_rules.specs.{Run, IsLegalRun, Zone}

@@ -2,14 +2,15 @@
 use Rattle.std.specs.Prelude.{[], ◌≡◌, ℕ, ◌+◌, ◌≤◌, ◌<◌, List, ◌∷◌, zero, suc}
 use Rattle.atomic_table.specs.Seated.{TableId}
 use Rattle.atomic_table.specs.Table.{Allows}
-use Rattle.frame_word.specs.{visit_index, KnownTable}
-use Rattle.stock_word.specs.StockRule.{stock_index}
+use Rattle.frame_word.specs.{visit_index}
+use Rattle.stock_word.specs.Stock.{stock_index}
 use Rattle.step_rules.specs.State.{Zone}
 use Rattle.boot_words.specs.declared.word.Word.{Word}
 use Rattle.boot_words.specs.declared.word.Word.TheVariants.{Quiet, StockOf, OfFrame, VisitOf}
 use Rattle.boot_words.specs.Rule.{frame_base, word_count, run_rule}
 use Rattle.boot_words.specs.declared.past.Past.{Past}
 use Rattle.boot_words.specs.Runs.{no_past}
+use Rattle.boot_words.specs.Tables.{KnownTable}
 
 -- the zone of a table
 abbrev pub zone_of_boot : KnownTable → Zone

@@ -1,15 +1,15 @@
 -- How each step with its answer changes the words, by the word that it finds. What isn't named here is unchanged.
 use Rattle.std.specs.Prelude.{[], ◌≡◌, ◌≢◌, ℕ, ◌+◌, ◌*◌, ◌<◌, ◌≤◌, true, Some, length, slice_index}
-use Rattle.frame_word.specs.ReferenceRule.{mark, most_references}
-use Rattle.stock_word.specs.declared.view.Stock.{Stock}
-use Rattle.stock_word.specs.declared.view.Stock.TheVariants.{NoGroup, HeldBy, DrainedOf}
+use Rattle.frame_word.specs.Word.{mark}
+use Rattle.stock_word.specs.declared.stock.Stock.{Stock}
+use Rattle.stock_word.specs.declared.stock.Stock.TheVariants.{NoGroup, HeldBy, DrainedOf}
 use Rattle.stock_word.specs.{word_of, HasWord, stock_pages_of, group_of, stock_index, report_index}
 use Rattle.step_rules.specs.declared.step.Step.{Step}
 use Rattle.step_rules.specs.declared.step.Action.{Action}
 use Rattle.step_rules.specs.declared.step.Action.TheVariants.{OpenVisit, ShutVisit, Get, Put, Freeze, Unfreeze, PassOut, TakeIn, PassBack, Collect, Consume, Credit, Report, Absorb, Fill, DrainStock, Lock, Unlock, Grant, Ungrant, PlaceBlock, Publish, Return, Note, NoteGroupKill, SetMax, SetFlag, Make, Remove, Kill}
 use Rattle.step_rules.specs.declared.step.Answer.{Answer}
 use Rattle.step_rules.specs.declared.step.Answer.TheVariants.{Done, Held, Zero, Full, Left, Last, Missed, Took, Drained, Stocked, Pages}
-use Rattle.step_rules.specs.{Zone, is_legal, get_answer, Allows, Run, state_of, pushed}
+use Rattle.step_rules.specs.{Zone, is_legal, get_answer, Allows, Run, state_of, pushed, most_references}
 use Rattle.boot_words.specs.Words.{Words, IsRunOf, with_frame_word, with_visit_word, with_stock_word, with_report_word}
 
 -- the frame's word

@@ -1,9 +1,9 @@
 -- The words of the state that a run leads to: the word and the visit word of frame_word, the stock word and the report
 -- word of stock_word.
 use Rattle.std.specs.Prelude.{◌≡◌, ℕ, ◌+◌, ◌*◌, ◌<◌, ◌≤◌, Bool, true, false, Option, Some, None, List, length, slice_index, slice_set}
-use Rattle.frame_word.specs.ReferenceRule.{mark, visit_index}
-use Rattle.stock_word.specs.declared.view.Stock.{Stock}
-use Rattle.stock_word.specs.declared.view.Stock.TheVariants.{NoGroup, HeldBy, DrainedOf}
+use Rattle.frame_word.specs.Word.{mark, visit_index}
+use Rattle.stock_word.specs.declared.stock.Stock.{Stock}
+use Rattle.stock_word.specs.declared.stock.Stock.TheVariants.{NoGroup, HeldBy, DrainedOf}
 use Rattle.stock_word.specs.{word_of, HasWord, stock_index, report_index}
 use Rattle.step_rules.specs.declared.phase.Way.TheVariants.{PassingOut, PassingBack}
 use Rattle.step_rules.specs.declared.phase.Stage.TheVariants.{FreshPassing, BackPassing}
@@ -76,7 +76,8 @@ with_frame_word words f word = record words { frames = slice_set words.frames f 
 
 -- the words with another visit word of the CPU
 abbrev pub with_visit_word : Zone → Words → ℕ → ℕ → Words
-with_visit_word zone words cpu word = record words { frames = slice_set words.frames (visit_index zone.frames cpu) word }
+with_visit_word zone words cpu word =
+    record words { frames = slice_set words.frames (visit_index zone.frames cpu) word }
 
 -- the words with another stock word of the CPU
 abbrev pub with_stock_word : Words → ℕ → ℕ → Words

@@ -1,7 +1,7 @@
 //! The seats of CPUs. Without the lock a CPU changes its stock by one exchange.
 ghost use Rattle.std.specs.Prelude.{◌≡◌, ◌+◌, ◌<◌, ◌≤◌, ◌==◌};
 ghost use prog.Atomic.{either};
-ghost use Rattle.stock_word.specs.declared.view.Stock.TheVariants.{HeldBy};
+ghost use Rattle.stock_word.specs.declared.stock.Stock.TheVariants.{HeldBy};
 ghost use Rattle.stock_word.specs.Stock.{word_of, HasWord};
 ghost use Rattle.step_rules.specs.declared.step.Action.TheVariants as step;
 ghost use Rattle.boot_words.specs.Pasts.{MayDo};
@@ -28,7 +28,7 @@ impl Model for CpuSeat {
 
     ghost Value = { KnownCpuSeat };
 
-    ghost view = { λ c. record { seat = c.past; number = c.number; last = c.last } };
+    ghost view = { λ c. record { past = c.past; number = c.number; last = c.last } };
 }
 
 impl CpuSeat {
@@ -84,7 +84,7 @@ impl BootWords {
     /// stock: so a failed exchange means `Drained`.
     pub fn consume(&self, cpu: &mut CpuSeat, group: u32) -> Consume
         requires cpu { IsAwayCpu self.now cpu.old }
-        requires legal { MayDo self.now cpu.old.seat (step.Consume group) }
+        requires legal { MayDo self.now cpu.old.past (step.Consume group) }
         ensures { ConsumesPage self.now cpu.old group result cpu.new }
     {
         match cpu.last {
@@ -120,7 +120,7 @@ impl BootWords {
     /// stock is drained, there is no access and no step.
     pub fn credit(&self, cpu: &mut CpuSeat, frame: Frame) -> Credit
         requires cpu { IsAwayCpu self.now cpu.old }
-        requires legal { MayDo self.now cpu.old.seat (step.Credit frame) }
+        requires legal { MayDo self.now cpu.old.past (step.Credit frame) }
         ensures { CreditsPage self.now cpu.old frame result cpu.new }
     {
         match cpu.last {

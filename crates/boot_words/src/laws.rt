@@ -1,16 +1,22 @@
-//! The reference rule and the stock rule, as laws of the rule that keeps the run.
-ghost use Rattle.boot_words.specs.Laws.{NeverZero, NoGroupNothingFresh, ReferenceRuleFollows, StockRuleFollows};
+//! Laws of the rule of the words, between any two atomic steps, and of what a CPU knows by its past.
+ghost use Rattle.boot_words.specs.Laws.{NeverZero, NoGroupNothingFresh, SeatsKnowTheirOwn, WordsBookPages};
+ghost use Rattle.boot_words.specs.Laws.{WordsCountReferences};
 
-/// The reference rule of `frame_word` holds of the words of frames and visits, and of what the pasts of all seats show:
-/// references, hands, lent frames, hand-overs begun and ended, open visits.
-pub fn the_reference_rule_follows()
-    ensures { ReferenceRuleFollows }
+/// A frame's word counts its references, those of the zone and of all CPUs. It is 0 exactly while the frame is in the hand
+/// of one seat, and a mark only while a visit is open.
+pub fn words_count_references()
+    ensures { WordsCountReferences }
 {}
 
-/// The stock rule of `stock_word` holds of the words of stocks and reports, and of what the pasts of all seats show: stocks,
-/// fresh and reported pages, books.
-pub fn the_stock_rule_follows()
-    ensures { StockRuleFollows }
+/// All pages prepaid for a CPU are in its stock word, in its fresh frames, and in its report word or not reported yet.
+pub fn words_book_pages()
+    ensures { WordsBookPages }
+{}
+
+/// By its past each seat knows its references and which frames are in its hand. The zone knows all apart from each CPU's
+/// own part, and a CPU its part, except that its stock may have been drained.
+pub fn seats_know_their_own()
+    ensures { SeatsKnowTheirOwn }
 {}
 
 /// A CPU that has a reference on the frame never gets Zero.

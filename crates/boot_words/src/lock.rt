@@ -20,9 +20,9 @@ impl BootWords {
         requires zone { IsZonePast self.now zone.old }
         requires cpu { IsAwayCpu self.now cpu.old }
         requires free { LeavesFree (zone_of_boot self.now) (own_past zone.old) }
-        ensures run { Locks self.now zone.old cpu.old.seat zone.new }
+        ensures run { Locks self.now zone.old cpu.old.past zone.new }
         ensures last { SawLast (stock_in ((local_by_pasts self.now zone.new).parts cpu.old.number)) cpu.old.last }
-        ensures cpu { cpu.new ≡ record cpu.old { seat = record { table = self.now.table; pasts = [] } } }
+        ensures cpu { cpu.new ≡ record cpu.old { past = record { table = self.now.table; pasts = [] } } }
     {
         self.join(zone, &mut cpu.past);
         self.load::<Brand>(zone, Word::Quiet);
@@ -34,7 +34,7 @@ impl BootWords {
         requires held { IsHeld self.now zone.old }
         requires holder { IsHolder zone.old cpu.old.number }
         requires legal { MayMake self.now zone.old cpu.old.number step.Unlock }
-        ensures run { Unlocks self.now zone.old zone.new cpu.new.seat }
+        ensures run { Unlocks self.now zone.old zone.new cpu.new.past }
         ensures cpu { IsAwayCpu self.now cpu.new }
         ensures last { cpu.new.last ≡ stock_in ((state_left self.now cpu.new).parts cpu.new.number) }
     {

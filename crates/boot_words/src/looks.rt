@@ -1,8 +1,8 @@
 //! Loads that are no step.
 ghost use Rattle.std.specs.Prelude.{◌≡◌, ◌<◌, ◌≤◌, IfSome};
-ghost use Rattle.frame_word.specs.ReferenceRule.{most_references};
-ghost use Rattle.stock_word.specs.Stock.{HasWord};
+ghost use Rattle.stock_word.specs.Stock.{HasWord, group_base};
 ghost use Rattle.step_rules.specs.After.{state_of};
+ghost use Rattle.step_rules.specs.State.{most_references};
 ghost use Rattle.boot_words.specs.Locks.{LeavesFree};
 ghost use Rattle.boot_words.specs.Pasts.{local_by_pasts, own_past, IsHeld, IsHolder, IsZonePast};
 ghost use Rattle.boot_words.specs.Seats.{zone_of_boot};
@@ -22,7 +22,7 @@ impl BootWords {
         requires holder { IsHolder held.old cpu }
         ensures stock { result ≡ stock_in ((local_by_pasts self.now held.old).parts cpu) }
         ensures has_word { HasWord result }
-        ensures bounded { ((local_by_pasts self.now held.old).parts cpu).book < 65536 }
+        ensures bounded { ((local_by_pasts self.now held.old).parts cpu).book < group_base }
         ensures same { held.new ≡ held.old }
     {
         let found = self.load::<Brand>(held, Word::StockOf(cpu));

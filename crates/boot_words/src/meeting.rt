@@ -18,7 +18,7 @@ impl BootWords {
         requires zone { IsZonePast self.now zone.old }
         requires cpu { IsAwayCpu self.now cpu.old }
         requires free { LeavesFree (zone_of_boot self.now) (own_past zone.old) }
-        ensures run { Meets self.now zone.old cpu.old.seat zone.new cpu.new.seat }
+        ensures run { Meets self.now zone.old cpu.old.past zone.new cpu.new.past }
         ensures cpu { IsAwayCpu self.now cpu.new }
         ensures same { (cpu.new.number ≡ cpu.old.number) × (cpu.new.last ≡ cpu.old.last) }
     {

@@ -1,6 +1,6 @@
 //! A new table.
 ghost use Rattle.std.specs.Prelude.{◌≡◌, ◌≤◌, IfOk};
-ghost use Rattle.stock_word.specs.declared.view.Stock.TheVariants.{NoGroup};
+ghost use Rattle.stock_word.specs.declared.stock.Stock.TheVariants.{NoGroup};
 ghost use Rattle.boot_words.specs.Rule.{AllOf};
 ghost use Rattle.boot_words.specs.Cpus.{IsAwayCpu};
 ghost use Rattle.boot_words.specs.Opening.{cpus_at_first, seat_at_first};
@@ -47,7 +47,7 @@ impl BootWords {
         requires table { rest.old.table ≡ self.now.table }
         ensures rest { rest.new ≡ record { table = self.now.table; pasts = rest_of rest.old.pasts } }
         ensures seat { result ≡ record {
-          seat = record { table = self.now.table; pasts = first_alone rest.old.pasts };
+          past = record { table = self.now.table; pasts = first_alone rest.old.pasts };
           number = cpu;
           last = NoGroup;
         } }

@@ -1,9 +1,9 @@
 //! The atomic table, its words and the pasts of its seats. Each access to a word is here. A caller names by `Telling` a
 //! fact that it wants to know afterwards, and proves by `MayChange` that the rule lets the access bring it about.
 ghost use Rattle.std.specs.Prelude.{◌≡◌, ◌≤◌, ◌+◌, ◌-◌, ◌%◌, ◌^◌, ◌<◌, ◌==◌, ◌++◌, [], IfOk, MatchOption};
-ghost use Rattle.std.specs.Mem.Slots.{slots_items, slots_len, IsFull};
+ghost use Rattle.std.specs.Mem.Slots.{slots_items, slots_len};
 ghost use prog.Atomic.{either};
-ghost use Rattle.boot_words.specs.Rule.{word_count, run_rule};
+ghost use Rattle.boot_words.specs.Rule.{run_rule};
 ghost use Rattle.boot_words.specs.Seats.{zone_of_boot};
 ghost use Rattle.boot_words.specs.Seats.{all_pasts, first_alone, word_place, rest_of, IsInTable, MayChange};
 ghost use Rattle.boot_words.specs.Closed.{IsEndOfRun};
@@ -22,7 +22,7 @@ pub(crate) type Pasts = LinkedList<Past>;
 
 /// The numbers of frames and CPUs, for the table's whole life.
 #[derive(Clone, Copy)]
-pub struct Sizes {
+pub struct TableKey {
     pub frames: u32,
     pub cpus: u32,
 }
@@ -30,7 +30,7 @@ pub struct Sizes {
 /// What holds of the table before and after each access.
 pub struct OneRun;
 
-impl TableRule<(), Pasts, Sizes> for OneRun {
+impl TableRule<(), Pasts, TableKey> for OneRun {
     ghost holds = { λ key. run_rule (record { frames = key.frames; cpus = key.cpus }) };
 
     ghost first = { λ key. all_pasts key.cpus };
@@ -44,6 +44,7 @@ pub trait Telling {
     ghost told: { ℕ → List Past → Type 0 };
 }
 
+// A caller passes `Brand`, and its proof names the fact that this stands for.
 impl Telling for Brand {
     ghost told = { λ found pasts. Unit {0} };
 }
@@ -87,13 +88,13 @@ impl Join<Pasts> for Both {
 /// `&`, and none waits in a call. A contract sees the table's identity and its numbers of frames and CPUs.
 #[derive(Drop)]
 pub struct BootWords {
-    table: Table<(), Pasts, Sizes, OneRun, Global>,
+    table: Table<(), Pasts, TableKey, OneRun, Global>,
     frames: u32,
     cpus: u32,
 }
 
 impl Model for BootWords {
-    ghost use Rattle.frame_word.specs.Seats.{KnownTable};
+    ghost use Rattle.boot_words.specs.Tables.{KnownTable};
 
     ghost Value = { KnownTable };
 
@@ -279,7 +280,7 @@ impl BootWords {
     {
         let rows = 16 * (cpus as usize + 1);
         let words = vec![in alloc; 0u64; rows + (frames as usize + cpus as usize)]?;
-        let sizes = Sizes { frames, cpus };
+        let sizes = TableKey { frames, cpus };
         let (table, seat) = Table::of_words(alloc, words.as_slice(), &sizes)?;
         let words = BootWords {
             table,
@@ -292,8 +293,7 @@ impl BootWords {
     /// Ends the table, of which `seat` is one seat.
     pub(crate) fn end(self, seat: PastSeat) -> Closed<(), Global>
         requires { seat.table ≡ self.table }
-        ensures counts { (slots_len result.words ≡ word_count (zone_of_boot self)) × (slots_len result.slots ≡ 0) }
-        ensures full { IsFull result.words }
+        ensures counts { slots_len result.slots ≡ 0 }
         ensures end { IsEndOfRun (zone_of_boot self) (slots_items result.words) seat.pasts }
     {
         let BootWords {

@@ -19,8 +19,8 @@ impl BootWords {
     /// load saw. A race is no step of the run. The CPU still knows its stock.
     pub fn get(&self, cpu: &mut CpuSeat, frame: Frame) -> Get
         requires cpu { IsAwayCpu self.now cpu.old }
-        requires legal { MayDo self.now cpu.old.seat (step.Get frame) }
-        ensures run { GetsReference self.now cpu.old.seat frame result cpu.new.seat }
+        requires legal { MayDo self.now cpu.old.past (step.Get frame) }
+        ensures run { GetsReference self.now cpu.old.past frame result cpu.new.past }
         ensures cpu { IsAwayCpu self.now cpu.new }
         ensures same { (cpu.new.number ≡ cpu.old.number) × (cpu.new.last ≡ cpu.old.last) }
     {
@@ -32,8 +32,8 @@ impl BootWords {
         ghost before: { Past }
         requires past { IsCpuPast self.now seat.old }
         requires before { own_past seat.old ≡ before }
-        requires away { holds_lock (own_past seat.old).number (state_of (zone_of_boot self.now) (own_past seat.old).seen).hold
-            ≡ false }
+        requires away { holds_lock (own_past seat.old).number
+            (state_of (zone_of_boot self.now) (own_past seat.old).seen).hold ≡ false }
         requires legal { MayDo self.now seat.old (step.Get frame) }
         ensures { GetsReference self.now seat.old frame result seat.new }
     {
@@ -55,8 +55,8 @@ impl BootWords {
     /// Drops a reference of the CPU. After the last one the frame is among its back frames. The CPU still knows its stock.
     pub fn put(&self, cpu: &mut CpuSeat, frame: Frame) -> Put
         requires cpu { IsAwayCpu self.now cpu.old }
-        requires legal { MayDo self.now cpu.old.seat (step.Put frame) }
-        ensures run { CpuMakes self.now cpu.old.seat (step.Put frame) (put_said result) cpu.new.seat }
+        requires legal { MayDo self.now cpu.old.past (step.Put frame) }
+        ensures run { CpuMakes self.now cpu.old.past (step.Put frame) (put_said result) cpu.new.past }
         ensures cpu { IsAwayCpu self.now cpu.new }
         ensures same { (cpu.new.number ≡ cpu.old.number) × (cpu.new.last ≡ cpu.old.last) }
     {

@@ -36,8 +36,8 @@ impl BootWords {
     fn take_one_by<M: Telling>(&self, held: &mut PastSeat, _seat: u32, frame: Frame) -> u64
         requires table { held.old.table ≡ self.now.table }
         requires frame { frame < self.now.frames }
-        requires may { MayChange (zone_of_boot self.now) held.old.pasts (OfFrame frame) (λ n. (n + (2 ^ 64 - 1)) % 2 ^ 64)
-            M.told }
+        requires may { MayChange (zone_of_boot self.now) held.old.pasts (OfFrame frame)
+            (λ n. (n + (2 ^ 64 - 1)) % 2 ^ 64) M.told }
         ensures table { held.new.table ≡ held.old.table }
         ensures told { M.told result held.new.pasts }
     {

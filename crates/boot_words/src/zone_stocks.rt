@@ -1,6 +1,6 @@
 //! Steps under the lock on the words of stocks. The seat has the zone's past and that of the lock's holder.
 ghost use Rattle.std.specs.Prelude.{◌≡◌, ◌+◌, ◌-◌, ◌%◌, ◌^◌, ◌≤◌};
-ghost use Rattle.stock_word.specs.declared.view.Stock.TheVariants.{DrainedOf, HeldBy};
+ghost use Rattle.stock_word.specs.declared.stock.Stock.TheVariants.{DrainedOf, HeldBy};
 ghost use Rattle.stock_word.specs.Stock.{word_of, HasWord};
 ghost use Rattle.step_rules.specs.Legal.{IsAnswer};
 ghost use Rattle.step_rules.specs.declared.step.Action.TheVariants as step;
@@ -19,8 +19,8 @@ impl BootWords {
     fn fill_with<M: Telling>(&self, seat: &mut PastSeat, cpu: u32, group: u32, pages: u32)
         requires table { seat.old.table ≡ self.now.table }
         requires cpu { cpu ≤ self.now.cpus }
-        requires may { MayChange (zone_of_boot self.now) seat.old.pasts (StockOf cpu) (λ n. word_of (HeldBy group pages))
-            (λ found. M.told (word_of (HeldBy group pages))) }
+        requires may { MayChange (zone_of_boot self.now) seat.old.pasts (StockOf cpu)
+            (λ n. word_of (HeldBy group pages)) (λ found. M.told (word_of (HeldBy group pages))) }
         ensures table { seat.new.table ≡ seat.old.table }
         ensures told { M.told (word_of (HeldBy group pages)) seat.new.pasts }
     {

@@ -11,5 +11,5 @@ pub use Rattle.control_files.specs.Flag.{IsFlagReading, IsFlagText, IsNoFlagText
 pub use Rattle.control_files.specs.Limit.{AreSpaces, IsAmount, IsLimitText, IsLimitWord, IsNoAmountText, IsNoLimitText, IsSuffix, IsTooGreat}
 pub use Rattle.control_files.specs.Limit.{ReadsAmount, ReadsAs, is_space, page_bytes, pages_covering}
 pub use Rattle.control_files.specs.Reading.{BeginsOutside, HasNoSpace, HasOnlyWord, IsAmountReading, IsOnlyWord, IsReading, SplitsDigits}
-pub use Rattle.control_files.specs.Stat.{stat_text}
+pub use Rattle.control_files.specs.Stat.{file_pages, stat_text}
 pub use Rattle.control_files.specs.Strings.{AddsBytes}

@@ -1,9 +1,8 @@
 -- For callers: steps that one atomic step made, as steps made one after the other.
 use Rattle.std.proofs.Common.{[], ◌∷◌, ◌∙◌, refl, sym}
-use Rattle.frame_word.specs.Seats.{KnownTable}
 use Rattle.step_rules.specs.After.{Run}
-use Rattle.boot_words.specs.{GrewInTurn, MakesInTurn, KnownPasts, IsHeld, cpu_past, own_past, zone_of_boot}
-use Rattle.cpu_part.specs.Made.{MakesAll}
+use Rattle.boot_words.specs.{GrewInTurn, MakesInTurn, KnownPasts, IsHeld, cpu_past, own_past, zone_of_boot, KnownTable}
+use Rattle.cpu_part.proofs.Made.{MakesAll}
 
 made_each : (t : KnownTable) (later : KnownPasts) (now : IsHeld t later) (steps : Run) (s : KnownPasts) → IsHeld t s
     → GrewInTurn (zone_of_boot t) (own_past s) (cpu_past s) steps (own_past later) (cpu_past later) → MakesAll t s steps later

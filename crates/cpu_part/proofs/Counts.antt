@@ -2,7 +2,7 @@
 use Rattle.std.proofs.Common.{◌≡◌, ℕ, ◌+◌, ◌<◌, ◌==◌, List, [], ◌∷◌, length, get_or, sym, refl, ap, ◌∙◌, subst, arith}
 use Rattle.std.proofs.lemmas.List.Sums.{sum_by-cons}
 use Rattle.std.proofs.lemmas.List.{get_or_default}
-use Rattle.std.proofs.lemmas.List.Sorted.{length_permutation, sum_by-IsPermutation, IsPermutation-remove, IsPermutation-swap_remove}
+use Rattle.std.proofs.lemmas.List.Sorted.{length_permutation, sum_by-IsPermutation, IsPermutation-swap_remove}
 use Rattle.std.specs.Prelude.{remove, sum_by, IsPermutation}
 use Rattle.std.specs.List.{swap_remove}
 use Rattle.step_rules.specs.State.{one_if, times}
@@ -22,10 +22,6 @@ parted_at f i x xs s ys same inside is value left =
     let within : i < length xs = subst (λ (l : List ℕ). i < length l) same inside in
     let e : x ≡ f = value ∙ get_or_default xs i x 0 within ∙ ap (λ (l : List ℕ). get_or l i 0) (sym same) ∙ is in
     subst (λ (p : ℕ × List ℕ). IsPermutation xs (p.0 ∷ p.1)) (λ j. (e j, sym left j)) (IsPermutation-swap_remove xs i x within value)
-
--- what is left where the entry at the place of f was taken out
-pub taken_out : (f i : ℕ) (xs : List ℕ) → i < length xs → get_or xs i 0 ≡ f → IsPermutation xs (f ∷ remove xs i)
-taken_out f i xs inside is = IsPermutation-remove xs i f inside (sym (get_or_default xs i f 0 inside ∙ is))
 
 -- the front of a list that was removed
 pub front_removed : (x : ℕ) (xs rest : List ℕ) → 0 < length xs → x ≡ get_or xs 0 x → rest ≡ remove xs 0 → xs ≡ x ∷ rest

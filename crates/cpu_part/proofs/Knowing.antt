@@ -5,8 +5,7 @@ use Rattle.std.proofs.lemmas.Bool.{le-leb}
 use Rattle.std.specs.Prelude.{IsPermutation, MatchBool, remove}
 use Rattle.frame_word.specs.declared.answers.Get as gets
 use Rattle.frame_word.specs.declared.answers.Get.TheVariants as get
-use Rattle.frame_word.specs.Seats.{KnownTable}
-use Rattle.stock_word.specs.declared.view.Stock.TheVariants.{HeldBy}
+use Rattle.stock_word.specs.declared.stock.Stock.TheVariants.{HeldBy}
 use Rattle.stock_word.specs.Stock.{drained_of, is_held}
 use Rattle.step_rules.specs.declared.step.Action.{Action}
 use Rattle.step_rules.specs.declared.step.Action.TheVariants.{Get, Put, Consume, Credit}
@@ -17,31 +16,31 @@ use Rattle.step_rules.specs.State.{State}
 use Rattle.step_rules.proofs.Freeing.{zone_of_run}
 use Rattle.step_rules.proofs.Runs.{sound_run}
 use Rattle.boot_words.specs.{IsFast, HasSameLists, MayDo, own_past, zone_of_boot, CpuMakes, GetsReference, Exchanges, IsAwayCpu, KnownCpuSeat}
-use Rattle.boot_words.specs.{state_left}
+use Rattle.boot_words.specs.{state_left, KnownTable}
 use Rattle.boot_words.proofs.OwnParts.{own_part_follows}
-use Rattle.cpu_part.specs.{KnownCpu, HasOwn, KnowsItsPart}
+use Rattle.cpu_part.specs.{KnownCpuLists, HasOwn, KnowsItsPart}
 use Rattle.cpu_part.proofs.Legal.{fresh_once, legal_consume, legal_credit, legal_get, legal_put, list_inside, listed_once, pin_inside}
 use Rattle.cpu_part.proofs.Owning.{own_credited, own_last, own_left, own_pinned, own_same, own_took}
 
 not_zone : (q : ℕ) → 1 ≤ q → q ≢ 0
 not_zone q low e = absurd (omega (arith, low, e))
 
-module _ (t : KnownTable) (k : KnownCpuSeat) (c : KnownCpu) (knows : KnowsItsPart t k c) where
+module _ (t : KnownTable) (k : KnownCpuSeat) (c : KnownCpuLists) (knows : KnowsItsPart t k c) where
   sound : KeepsInvariant (state_left t k)
-  sound = sound_run (zone_of_boot t) (own_past k.seat).seen knows.is.past.legal
+  sound = sound_run (zone_of_boot t) (own_past k.past).seen knows.is.past.legal
 
   zone_is : (state_left t k).zone ≡ zone_of_boot t
-  zone_is = zone_of_run (zone_of_boot t) (own_past k.seat).seen
+  zone_is = zone_of_run (zone_of_boot t) (own_past k.past).seen
 
   -- the number of its past
-  number_is : c.number ≡ (own_past k.seat).number
+  number_is : c.number ≡ (own_past k.past).number
   number_is = sym knows.number ∙ knows.is.number
 
   pub not_the_zone : c.number ≢ 0
-  not_the_zone none = not_zone (own_past k.seat).number knows.is.past.low (sym number_is ∙ none)
+  not_the_zone none = not_zone (own_past k.past).number knows.is.past.low (sym number_is ∙ none)
 
   a_cpu : is_cpu (state_left t k).zone c.number ≡ true
-  a_cpu = let is = knows.is.past in let q = (own_past k.seat).number in
+  a_cpu = let is = knows.is.past in let q = (own_past k.past).number in
       (λ i. is_cpu (zone_is i) (number_is i)) ∙ (λ i. le-leb 1 q is.low i && le-leb q t.cpus is.high i)
 
   -- ---- its frames are of the table
@@ -57,32 +56,32 @@ module _ (t : KnownTable) (k : KnownCpuSeat) (c : KnownCpu) (knows : KnowsItsPar
 
   -- ---- which steps are legal after its past
 
-  may : (action : Action) → is_legal (state_left t k) c.number action ≡ true → MayDo t k.seat action
+  may : (action : Action) → is_legal (state_left t k) c.number action ≡ true → MayDo t k.past action
   may action legal = subst (λ (q : ℕ). is_legal (state_left t k) q action ≡ true) number_is legal
 
-  pub may_consume : (g : ℕ) → 1 ≤ length c.list → length c.fresh < 32 → MayDo t k.seat (Consume g)
+  pub may_consume : (g : ℕ) → 1 ≤ length c.list → length c.fresh < 32 → MayDo t k.past (Consume g)
   may_consume g some short = may (Consume g) (legal_consume (state_left t k) sound c knows.own a_cpu g some short)
 
-  pub may_credit : (f : ℕ) → 1 ≤ times f c.fresh → MayDo t k.seat (Credit f)
+  pub may_credit : (f : ℕ) → 1 ≤ times f c.fresh → MayDo t k.past (Credit f)
   may_credit f some = may (Credit f) (legal_credit (state_left t k) sound c knows.own a_cpu f some)
 
-  pub may_put : (f : ℕ) → 1 ≤ times f c.pins → MayDo t k.seat (Put f)
+  pub may_put : (f : ℕ) → 1 ≤ times f c.pins → MayDo t k.past (Put f)
   may_put f some = may (Put f) (legal_put (state_left t k) sound c knows.own a_cpu f some)
 
-  pub may_get : (f : ℕ) → f < t.frames → length c.back + length c.pins < 256 → MayDo t k.seat (Get f)
+  pub may_get : (f : ℕ) → f < t.frames → length c.back + length c.pins < 256 → MayDo t k.past (Get f)
   may_get f inside room =
       may (Get f) (legal_get (state_left t k) sound c knows.own a_cpu f (subst (λ (z : Zone). f < z.frames) (sym zone_is) inside) room)
 
   -- ---- what it knows after each step
 
   -- it made the step, and its lists are what the step makes of them, whatever others did before
-  knows_after : (l : KnownCpuSeat) (d : KnownCpu) (action : Action) (answer : Answer) → IsFast action → IsAwayCpu t l → l.number ≡ k.number
-      → d.number ≡ c.number → CpuMakes t k.seat action answer l.seat → HasOwn (after (state_left t k) c.number action answer) d → KnowsItsPart t l d
+  knows_after : (l : KnownCpuSeat) (d : KnownCpuLists) (action : Action) (answer : Answer) → IsFast action → IsAwayCpu t l → l.number ≡ k.number
+      → d.number ≡ c.number → CpuMakes t k.past action answer l.past → HasOwn (after (state_left t k) c.number action answer) d → KnowsItsPart t l d
   knows_after l d action answer fast is number same makes own =
-      let q = (own_past k.seat).number in
+      let q = (own_past k.past).number in
       let follows : HasSameLists d.number (after (state_left t k) c.number action answer) (state_left t l) =
       subst (λ (p : ℕ × ℕ). HasSameLists p.0 (after (state_left t k) p.1 action answer) (state_left t l)) (λ i. (sym (same ∙ number_is) i, sym number_is i))
-      (own_part_follows (zone_of_boot t) (own_past k.seat) action answer (own_past l.seat) (not_zone q knows.is.past.low) fast makes.grew) in
+      (own_part_follows (zone_of_boot t) (own_past k.past) action answer (own_past l.past) (not_zone q knows.is.past.low) fast makes.grew) in
       record {
         is = is;
         number = number ∙ knows.number ∙ sym same;
@@ -116,21 +115,21 @@ module _ (t : KnownTable) (k : KnownCpuSeat) (c : KnownCpu) (knows : KnowsItsPar
       by false same = knows_same l same
 
   module _ (l : KnownCpuSeat) (is : IsAwayCpu t l) (number : l.number ≡ k.number) where
-    pub knows_held : (f : ℕ) (pins : List ℕ) → CpuMakes t k.seat (Get f) Held l.seat → pins ≡ c.pins ++ f ∷ [] → KnowsItsPart t l (record c { pins = pins })
+    pub knows_held : (f : ℕ) (pins : List ℕ) → CpuMakes t k.past (Get f) Held l.past → pins ≡ c.pins ++ f ∷ [] → KnowsItsPart t l (record c { pins = pins })
     knows_held f pins makes end = knows_after l (record c { pins = pins }) (Get f) Held tt is number refl makes (own_pinned (state_left t k) c knows.own f pins end)
 
-    pub knows_not_held : (f : ℕ) (answer : gets.Get) → l.last ≡ k.last → answer ≢ get.Held → GetsReference t k.seat f answer l.seat → KnowsItsPart t l c
+    pub knows_not_held : (f : ℕ) (answer : gets.Get) → l.last ≡ k.last → answer ≢ get.Held → GetsReference t k.past f answer l.past → KnowsItsPart t l c
     knows_not_held f get.Held last not makes = absurd (not refl)
     knows_not_held f get.Zero last not makes = knows_after l c (Get f) Zero tt is number refl makes knows.own
     knows_not_held f get.Full last not makes = knows_after l c (Get f) Full tt is number refl makes knows.own
-    knows_not_held f (get.Raced n) last not raced = knows_same l (λ i. record { seat = raced.0 i; number = number i; last = last i })
+    knows_not_held f (get.Raced n) last not raced = knows_same l (λ i. record { past = raced.0 i; number = number i; last = last i })
 
-    pub knows_left : (f n : ℕ) (pins : List ℕ) → CpuMakes t k.seat (Put f) (Left n) l.seat → IsPermutation c.pins (f ∷ pins)
+    pub knows_left : (f n : ℕ) (pins : List ℕ) → CpuMakes t k.past (Put f) (Left n) l.past → IsPermutation c.pins (f ∷ pins)
         → KnowsItsPart t l (record c { pins = pins })
     knows_left f n pins makes parts =
         knows_after l (record c { pins = pins }) (Put f) (Left n) tt is number refl makes (own_left (state_left t k) c knows.own f n pins parts)
 
-    pub knows_last : (f : ℕ) (pins back : List ℕ) → CpuMakes t k.seat (Put f) Last l.seat → IsPermutation c.pins (f ∷ pins) → back ≡ c.back ++ f ∷ []
+    pub knows_last : (f : ℕ) (pins back : List ℕ) → CpuMakes t k.past (Put f) Last l.past → IsPermutation c.pins (f ∷ pins) → back ≡ c.back ++ f ∷ []
         → KnowsItsPart t l (record c { back = back; pins = pins })
     knows_last f pins back makes parts end =
         knows_after l (record c { back = back; pins = pins }) (Put f) Last tt is number refl makes

@@ -9,7 +9,7 @@ use Rattle.step_rules.specs.Phases.{FreshFrame, ListFrame}
 use Rattle.step_rules.specs.State.{State}
 use Rattle.step_rules.proofs.Lists.{count_length, one_if_true}
 use Rattle.step_rules.proofs.Sums.{sum_same}
-use Rattle.cpu_part.specs.{KnownCpu, HasOwn}
+use Rattle.cpu_part.specs.{KnownCpuLists, HasOwn}
 
 at_most_one : (b : Bool) → one_if b ≤ 1
 at_most_one true = omega arith
@@ -28,7 +28,7 @@ free_dead (phase.Lent p way) free = absurd (false≢true free)
 free_dead (phase.Head u stage) free = absurd (false≢true free)
 free_dead (phase.Tail g) free = absurd (false≢true free)
 
-module _ (s : State) (sound : KeepsInvariant s) (c : KnownCpu) (own : HasOwn s c) where
+module _ (s : State) (sound : KeepsInvariant s) (c : KnownCpuLists) (own : HasOwn s c) where
   listed_inside : (f : ℕ) (kind : Kind) → 1 ≤ times f (frames_of (s.parts c.number) kind) → f < s.zone.frames
   listed_inside f kind some = elim (cases_lt f s.zone.frames) [
     | inl low ↦ low

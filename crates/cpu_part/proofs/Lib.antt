@@ -6,4 +6,5 @@ pub mod Unlisted
 pub mod Telling
 pub mod Making
 pub mod Passing
+pub mod Made
 pub mod CallerLemmas

@@ -1,9 +1,8 @@
 -- Which steps may be made, and which were made, at a table and a number that are known by other names.
 use Rattle.std.proofs.Common.{◌≡◌, ℕ, sym, subst}
-use Rattle.frame_word.specs.Seats.{KnownTable}
 use Rattle.step_rules.specs.declared.step.Action.{Action}
 use Rattle.step_rules.specs.After.{Run}
-use Rattle.boot_words.specs.{AreLegal, MakesInTurn, KnownPasts, MayDo, MayMake, local_by_pasts}
+use Rattle.boot_words.specs.{AreLegal, MakesInTurn, KnownPasts, MayDo, MayMake, local_by_pasts, KnownTable}
 
 module _ (t u : KnownTable) (same : u ≡ t) where
   pub may_do_at : (s : KnownPasts) (action : Action) → MayDo t s action → MayDo u s action

@@ -10,10 +10,10 @@ use Rattle.step_rules.proofs.Basics.{at_each, at_same}
 use Rattle.step_rules.proofs.Lists.{removed_once, times_same, times_other, times_last, without_front}
 use Rattle.step_rules.proofs.CoverParts.{own_part, own_reference}
 use Rattle.boot_words.specs.Sight.{HasSameLists}
-use Rattle.cpu_part.specs.{KnownCpu, HasOwn}
+use Rattle.cpu_part.specs.{KnownCpuLists, HasOwn}
 use Rattle.cpu_part.proofs.Counts.{times_parted}
 
-module _ (s : State) (c : KnownCpu) (own : HasOwn s c) where
+module _ (s : State) (c : KnownCpuLists) (own : HasOwn s c) where
   pub own_same : (u : State) → HasSameLists c.number s u → HasOwn u c
   own_same u same = record {
     list = same.list ∙ own.list;
@@ -88,7 +88,7 @@ module _ (s : State) (c : KnownCpu) (own : HasOwn s c) where
 
 -- ---- what the CPU sees
 
-module _ (s : State) (c : KnownCpu) where
+module _ (s : State) (c : KnownCpuLists) where
   here : (seen_by c.number s).parts c.number ≡ s.parts c.number
   here = own_part c.number s.parts c.number refl
 

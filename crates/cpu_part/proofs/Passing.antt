@@ -1,7 +1,6 @@
 -- What a step under the lock says of the CPU's frames.
 use Rattle.std.proofs.Common.{◌≡◌, ℕ, ◌<◌, ◌≤◌, List, ◌∷◌, length, sym, ap, ◌∙◌, subst, arith, inr}
 use Rattle.std.proofs.lemmas.Bool.{leb-true, ltb-true}
-use Rattle.frame_word.specs.Seats.{KnownTable}
 use Rattle.step_rules.specs.declared.step.Action.TheVariants.{Consume, PassBack}
 use Rattle.step_rules.specs.{KeepsInvariant, Part, Zone, is_frame, times, state_of, seen_by}
 use Rattle.step_rules.proofs.Freeing.{zone_of_run}
@@ -9,8 +8,8 @@ use Rattle.step_rules.proofs.LegalTests.{consume_tests, pass_back_tests}
 use Rattle.step_rules.proofs.Lists.{times_same}
 use Rattle.step_rules.proofs.Runs.{sound_run}
 use Rattle.step_rules.proofs.SoundSteps.{below_frames}
-use Rattle.boot_words.specs.{KnownPasts, IsHeld, IsHolder, MayMake, cpu_past, local_by_pasts, zone_of_boot}
-use Rattle.cpu_part.specs.{KnownCpu, HasOwn}
+use Rattle.boot_words.specs.{KnownPasts, IsHeld, IsHolder, MayMake, cpu_past, local_by_pasts, zone_of_boot, KnownTable}
+use Rattle.cpu_part.specs.{KnownCpuLists, HasOwn}
 use Rattle.cpu_part.proofs.Legal.{list_inside}
 use Rattle.cpu_part.proofs.Owning.{own_unseen}
 
@@ -24,7 +23,7 @@ module _ (t : KnownTable) (s : KnownPasts) where
       let inside = (pass_back_tests (local_by_pasts t s) p f legal).1 in
       below_frames (zone_of_boot t) f (ap (λ (z : Zone). is_frame z f) (sym zone_is) ∙ inside)
 
-  module _ (c : KnownCpu) (own : HasOwn (local_by_pasts t s) c) where
+  module _ (c : KnownCpuLists) (own : HasOwn (local_by_pasts t s) c) where
     -- a CPU that may consume has a frame listed, and room for another fresh one
     pub may_take : (g : ℕ) → MayMake t s c.number (Consume g) → (1 ≤ length c.list) × (length c.fresh < 32)
     may_take g legal =

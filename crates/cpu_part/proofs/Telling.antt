@@ -1,45 +1,33 @@
 -- The steps that the answer of a fast call tells of are those by which the CPU's past grew.
-use Rattle.std.proofs.Common.{◌≡◌, ◌≢◌, ℕ, Bool, true, false, [], refl, ap, sym, ◌∙◌, subst}
-use Rattle.std.specs.Prelude.{MatchBool, Result, Err, Ok, if◌then◌else◌}
+use Rattle.std.proofs.Common.{◌≡◌, ◌≢◌, ℕ, [], ◌∷◌, refl, ap, sym, ◌∙◌, subst}
+use Rattle.std.specs.Prelude.{Result, Err, Ok}
 use Rattle.frame_word.specs.declared.answers.Get as gets
 use Rattle.frame_word.specs.declared.answers.Get.TheVariants as get
-use Rattle.frame_word.specs.Seats.{KnownTable}
 use Rattle.group_tree.specs.declared.fault.Fault.{Fault}
-use Rattle.stock_word.specs.Stock.{drained_of, is_held}
 use Rattle.step_rules.specs.declared.step.Action.{Action}
 use Rattle.step_rules.specs.declared.step.Answer.{Answer}
-use Rattle.step_rules.specs.declared.step.Answer.TheVariants.{Drained}
-use Rattle.boot_words.specs.{GrewBy, GrewByAll, KnownPasts, own_past, zone_of_boot, CpuMakes, GetsReference, RacesAt, Exchanges, KnownCpuSeat}
-use Rattle.cpu_part.specs.{IfRaced, PinAnswers, KnownCpu, KnowsItsPart, one_step, steps_of_get}
+use Rattle.step_rules.specs.After.{cpu_makes}
+use Rattle.boot_words.specs.{GrewBy, GrewByAll, KnownPasts, own_past, zone_of_boot, CpuMakes, GetsReference, RacesAt, KnownCpuSeat, KnownTable}
+use Rattle.cpu_part.specs.{IfRaced, PinAnswers, KnownCpuLists, KnowsItsPart, steps_of_get}
 
-module _ (t : KnownTable) (k : KnownCpuSeat) (c : KnownCpu) (knows : KnowsItsPart t k c) where
-  pub told_one : (action : Action) (answer : Answer) (s : KnownPasts) → CpuMakes t k.seat action answer s
-      → GrewByAll (own_past k.seat) (one_step c.number action answer) (own_past s)
+module _ (t : KnownTable) (k : KnownCpuSeat) (c : KnownCpuLists) (knows : KnowsItsPart t k c) where
+  pub told_one : (action : Action) (answer : Answer) (s : KnownPasts) → CpuMakes t k.past action answer s
+      → GrewByAll (own_past k.past) (cpu_makes c.number action answer ∷ []) (own_past s)
   told_one action answer s made = (
     own_past s,
-    subst (λ (n : ℕ). GrewBy (own_past k.seat) (record { seat = n; action = action }) answer (own_past s)) (sym knows.is.number ∙ knows.number) made.grew,
+    subst (λ (n : ℕ). GrewBy (own_past k.past) (record { seat = n; action = action }) answer (own_past s)) (sym knows.is.number ∙ knows.number) made.grew,
     refl,
   )
 
-  -- the stock was found drained: a step if it was held when the CPU saw it last
-  pub told_drained : (action : Action) (l : KnownCpuSeat) → MatchBool (is_held k.last) (Exchanges t k action Drained (drained_of k.last) l) (l ≡ k)
-      → GrewByAll (own_past k.seat) (if is_held k.last then one_step c.number action Drained else []) (own_past l.seat)
-  told_drained action l told = by (is_held k.last) told
-    where
-      by : (b : Bool) → MatchBool b (Exchanges t k action Drained (drained_of k.last) l) (l ≡ k)
-          → GrewByAll (own_past k.seat) (if b then one_step c.number action Drained else []) (own_past l.seat)
-      by true made = told_one action Drained l.seat made.makes
-      by false same = ap (λ (x : KnownCpuSeat). own_past x.seat) same
-
-  pub told_get : (f : ℕ) (answer : gets.Get) (s : KnownPasts) → GetsReference t k.seat f answer s → GrewByAll (own_past k.seat) (steps_of_get c.number f (Ok answer)) (own_past s)
+  pub told_get : (f : ℕ) (answer : gets.Get) (s : KnownPasts) → GetsReference t k.past f answer s → GrewByAll (own_past k.past) (steps_of_get c.number f (Ok answer)) (own_past s)
   told_get f get.Held s made = told_one _ _ s made
   told_get f get.Zero s made = told_one _ _ s made
   told_get f get.Full s made = told_one _ _ s made
   told_get f (get.Raced n) s raced = ap own_past raced.0
 
   -- an answer that adds no pin
-  pub not_pinned : (f : ℕ) (answer : gets.Get) (s : KnownPasts) → answer ≢ get.Held → GetsReference t k.seat f answer s
-      → PinAnswers f answer c c × IfRaced answer (RacesAt (zone_of_boot t) (own_past k.seat) f)
+  pub not_pinned : (f : ℕ) (answer : gets.Get) (s : KnownPasts) → answer ≢ get.Held → GetsReference t k.past f answer s
+      → PinAnswers f answer c c × IfRaced answer (RacesAt (zone_of_boot t) (own_past k.past) f)
   not_pinned f get.Held s not made = absurd (not refl)
   not_pinned f get.Zero s not made = (refl, tt)
   not_pinned f get.Full s not made = (refl, tt)

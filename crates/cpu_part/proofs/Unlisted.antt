@@ -3,7 +3,6 @@ use Rattle.std.proofs.Common.{◌≡◌, ◌≢◌, ℕ, zero, suc, ◌+◌, ◌
 use Rattle.std.proofs.lemmas.Bool.{cases_Bool}
 use Rattle.frame_word.specs.declared.answers.Get as gets
 use Rattle.frame_word.specs.declared.answers.Get.TheVariants as get
-use Rattle.frame_word.specs.Seats.{KnownTable}
 use Rattle.step_rules.specs.declared.phase.ChargedUnit.{ChargedUnit}
 use Rattle.step_rules.specs.declared.phase.Phase.{Phase}
 use Rattle.step_rules.specs.declared.phase.Phase.TheVariants as phase
@@ -24,11 +23,11 @@ use Rattle.step_rules.proofs.PhaseLemmas.{live_is, nobody_has_live}
 use Rattle.step_rules.proofs.Runs.{legal_from, sound_run}
 use Rattle.step_rules.proofs.Sums.{sum_none}
 use Rattle.boot_words.specs.{KnownPasts, own_past, OthersFollow, zone_of_boot, frame_word, word_in_phase, CpuMakes, GetsReference, KnownCpuSeat}
-use Rattle.boot_words.specs.{state_left}
+use Rattle.boot_words.specs.{state_left, KnownTable}
 use Rattle.boot_words.proofs.Holding.{allowed_at, take_length}
 use Rattle.boot_words.proofs.Owning.{lists_are_own}
 use Rattle.boot_words.proofs.Counts.{never_zero}
-use Rattle.cpu_part.specs.{IsUnlisted, KnownCpu, KnowsItsPart}
+use Rattle.cpu_part.specs.{IsUnlisted, KnownCpuLists, KnowsItsPart}
 use Rattle.cpu_part.proofs.Knowing.{not_the_zone}
 
 -- ---- words of live frames
@@ -74,17 +73,17 @@ word_lives s f is low high = elim (cases_Bool (is_live_phase (s.phases f))) [
 
 -- ---- the frame of a get or a put
 
-module _ (t : KnownTable) (k : KnownCpuSeat) (c : KnownCpu) (knows : KnowsItsPart t k c) (f : ℕ) where
+module _ (t : KnownTable) (k : KnownCpuSeat) (c : KnownCpuLists) (knows : KnowsItsPart t k c) (f : ℕ) where
   -- a frame that is live after others' steps
-  unlisted_at : (run : Run) → IsLegalRun (zone_of_boot t) run → OthersFollow (own_past k.seat).number (own_past k.seat).seen run
+  unlisted_at : (run : Run) → IsLegalRun (zone_of_boot t) run → OthersFollow (own_past k.past).number (own_past k.past).seen run
       → is_live_phase ((state_of (zone_of_boot t) run).phases f) ≡ true → IsUnlisted f c
   unlisted_at run legal goes live =
       let zone = zone_of_boot t in let s = state_of zone run in
       let lives = live_is (s.phases f) live in
       let none : (kind : Kind) → times f (frames_of (s.parts c.number) kind) ≡ 0 = λ kind.
       (sound_run zone run legal).lists c.number kind f ∙ ap (λ (x : Phase). one_if (has_as kind c.number x)) lives.1 ∙ ap one_if (nobody_has_live lives.0 c.number kind) in
-      let same = lists_are_own zone (own_past k.seat).seen run c.number (not_the_zone t k c knows)
-      (subst (λ (q : ℕ). OthersFollow q (own_past k.seat).seen run) (sym knows.is.number ∙ knows.number) goes) in (
+      let same = lists_are_own zone (own_past k.past).seen run c.number (not_the_zone t k c knows)
+      (subst (λ (q : ℕ). OthersFollow q (own_past k.past).seen run) (sym knows.is.number ∙ knows.number) goes) in (
         ap (times f) (sym (same.list ∙ knows.own.list)) ∙ none ListFrame,
         ap (times f) (sym (same.fresh ∙ knows.own.fresh)) ∙ none FreshFrame,
         ap (times f) (sym (same.back ∙ knows.own.back)) ∙ none BackFrame,
@@ -94,12 +93,12 @@ module _ (t : KnownTable) (k : KnownCpuSeat) (c : KnownCpu) (knows : KnowsItsPar
   record IsBehind (action : Action) (answer : Answer) : Type 0 where
     run : Run
     legal : IsLegalRun (zone_of_boot t) run
-    goes : OthersFollow (own_past k.seat).number (own_past k.seat).seen run
-    allowed : Allows (state_of (zone_of_boot t) run) (own_past k.seat).number action answer
+    goes : OthersFollow (own_past k.past).number (own_past k.past).seen run
+    allowed : Allows (state_of (zone_of_boot t) run) (own_past k.past).number action answer
 
-  behind : (action : Action) (answer : Answer) (s : KnownPasts) → CpuMakes t k.seat action answer s → IsBehind action answer
+  behind : (action : Action) (answer : Answer) (s : KnownPasts) → CpuMakes t k.past action answer s → IsBehind action answer
   behind action answer s made =
-      let zone = zone_of_boot t in let p = own_past k.seat in
+      let zone = zone_of_boot t in let p = own_past k.past in
       let before = p.seen ++ made.grew.between in
       let whole = subst (IsLegalRun zone) made.grew.seen made.is_past.legal in
       record {
@@ -119,13 +118,13 @@ module _ (t : KnownTable) (k : KnownCpuSeat) (c : KnownCpu) (knows : KnowsItsPar
   some_answer zero answer is not = absurd (not is)
   some_answer (suc n) answer is not = omega arith
 
-  get_unlisted : (answer : Answer) (s : KnownPasts) → CpuMakes t k.seat (Get f) answer s → answer ≢ Zero
+  get_unlisted : (answer : Answer) (s : KnownPasts) → CpuMakes t k.past (Get f) answer s → answer ≢ Zero
       → ((b : IsBehind (Get f) answer) → answer ≡ get_answer (live_references (state_of (zone_of_boot t) b.run) f)) → IsUnlisted f c
   get_unlisted answer s made not counted =
       let b = behind (Get f) answer s made in
       counted_at (Get f) answer b (some_answer (live_references (state_of (zone_of_boot t) b.run) f) answer (counted b) not)
 
-  pub got_unlisted : (answer : gets.Get) (s : KnownPasts) → GetsReference t k.seat f answer s → answer ≢ get.Zero → IsUnlisted f c
+  pub got_unlisted : (answer : gets.Get) (s : KnownPasts) → GetsReference t k.past f answer s → answer ≢ get.Zero → IsUnlisted f c
   got_unlisted get.Held s made not = get_unlisted Held s made (λ e. held_zero e) (λ b. b.allowed.counted)
     where
       held_zero : Held ≡ Zero → ⊥
@@ -143,7 +142,7 @@ module _ (t : KnownTable) (k : KnownCpuSeat) (c : KnownCpu) (knows : KnowsItsPar
       (word_lives (state_of zone raced.loaded) f (live_are_referenced zone raced.loaded legal f) raced.some raced.room)
 
   -- what a put says of the references that are left
-  pub put_left : (n : ℕ) (s : KnownPasts) → CpuMakes t k.seat (Put f) (Left n) s → IsUnlisted f c × (1 ≤ n) × (n < 255)
+  pub put_left : (n : ℕ) (s : KnownPasts) → CpuMakes t k.past (Put f) (Left n) s → IsUnlisted f c × (1 ≤ n) × (n < 255)
   put_left n s made =
       let b = behind (Put f) (Left n) s made in let u = state_of (zone_of_boot t) b.run in
       let count = b.allowed.counted.0 in let some = b.allowed.counted.1 in
@@ -152,19 +151,19 @@ module _ (t : KnownTable) (k : KnownCpuSeat) (c : KnownCpu) (knows : KnowsItsPar
       let high = (is.some (counted_lives u f is low)).1 in
       (counted_at (Put f) (Left n) b low, some, omega (arith, count, high))
 
-  pub put_last : (s : KnownPasts) → CpuMakes t k.seat (Put f) Last s → IsUnlisted f c
+  pub put_last : (s : KnownPasts) → CpuMakes t k.past (Put f) Last s → IsUnlisted f c
   put_last s made =
       let b = behind (Put f) Last s made in
       counted_at (Put f) Last b (let count = b.allowed.counted in omega (arith, count))
 
   -- a pinned frame is never answered Zero
-  pub pinned_not_zero : (answer : gets.Get) (s : KnownPasts) → GetsReference t k.seat f answer s → 1 ≤ times f c.pins → answer ≢ get.Zero
+  pub pinned_not_zero : (answer : gets.Get) (s : KnownPasts) → GetsReference t k.past f answer s → 1 ≤ times f c.pins → answer ≢ get.Zero
   pinned_not_zero get.Held s made some is = cc
   pinned_not_zero get.Full s made some is = cc
   pinned_not_zero (get.Raced n) s made some is = cc
   pinned_not_zero get.Zero s made some is =
-      let none = never_zero t k.seat f s knows.is.past made in
+      let none = never_zero t k.past f s knows.is.past made in
       let own = knows.own.references f in
-      let here : (state_left t k).references (own_past k.seat).number f ≡ (state_left t k).references c.number f =
+      let here : (state_left t k).references (own_past k.past).number f ≡ (state_left t k).references c.number f =
       ap (λ q. (state_left t k).references q f) (sym knows.is.number ∙ knows.number) in
       absurd (omega (arith, none, own, here, some))

@@ -1,7 +1,7 @@
 -- What a contract sees of a CPU's part, and what always holds of it.
 use Rattle.std.specs.Prelude.{◌≡◌, ℕ, ◌+◌, ◌≤◌, List, []}
 use Rattle.atomic_table.specs.Seated.{TableId}
-use Rattle.step_rules.specs.State.{times}
+use Rattle.step_rules.specs.State.{times, most_fresh, most_pins}
 
 -- the table of no boot: it has no frame and no CPU
 abbrev pub no_table : TableId
@@ -9,7 +9,7 @@ no_table = record { words = 0; slots = 0; views_name = 0; atom = 0; block = 0; o
 
 -- A CPU's part: its number, its listed, fresh and back frames, its pins (an entry for each), and how often a fresh frame
 -- was dropped to its list.
-pub record KnownCpu : Type 0 where
+pub record KnownCpuLists : Type 0 where
   pub number : ℕ
   pub list : List ℕ
   pub fresh : List ℕ
@@ -20,14 +20,6 @@ pub record KnownCpu : Type 0 where
 -- how many listed and fresh frames a CPU has at most, together
 abbrev pub most_listed : ℕ
 most_listed = 256
-
--- how many of them are fresh at most
-abbrev pub most_fresh : ℕ
-most_fresh = 32
-
--- how many pins and back frames a CPU has at most, together
-abbrev pub most_pins : ℕ
-most_pins = 256
 
 -- how many frames and pins a CPU's part can have
 pub record AreWithin (list fresh back pins : ℕ) : Type 0 where
@@ -43,13 +35,13 @@ pub record HasRoom (list fresh back pins : ℕ) : Type 0 where
   pub pin_room : most_pins ≤ pins
 
 -- the part of a CPU that did nothing yet
-abbrev pub first_cpu : ℕ → KnownCpu
+abbrev pub first_cpu : ℕ → KnownCpuLists
 first_cpu number = record { number = number; list = []; fresh = []; back = []; pins = []; drops = 0 }
 
 -- there is no frame on the lists and no pin
-abbrev pub IsIdle : KnownCpu → Type 0
+abbrev pub IsIdle : KnownCpuLists → Type 0
 IsIdle c = (c.list ≡ []) × (c.fresh ≡ []) × (c.back ≡ []) × (c.pins ≡ [])
 
 -- the frame is on none of the CPU's lists
-abbrev pub IsUnlisted : ℕ → KnownCpu → Type 0
+abbrev pub IsUnlisted : ℕ → KnownCpuLists → Type 0
 IsUnlisted f c = (times f c.list ≡ 0) × (times f c.fresh ≡ 0) × (times f c.back ≡ 0)

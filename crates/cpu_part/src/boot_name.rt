@@ -6,15 +6,15 @@ use std::marker::{Brand, PhantomData};
 
 /// The name of a boot. Only contracts see what it names: the boot's table.
 pub trait BootName {
-    ghost use Rattle.frame_word.specs.Seats.{KnownTable};
+    ghost use Rattle.boot_words.specs.Tables.{KnownTable};
 
-    ghost frames: { KnownTable };
+    ghost table: { KnownTable };
 }
 
 impl BootName for Brand {
     ghost use Rattle.cpu_part.specs.Cpus.{no_table};
 
-    ghost frames = { record { table = no_table; frames = 0; cpus = 0 } };
+    ghost table = { record { table = no_table; frames = 0; cpus = 0 } };
 }
 
 /// The table of a boot's words, which all its CPUs share by `&`.
@@ -22,14 +22,14 @@ impl BootName for Brand {
 pub struct Tables<N: BootName> {
     pub words: BootWords,
     of: PhantomData<N>,
-    pub ghost frames_are: { words ≡ N.frames },
+    pub ghost words_are: { words ≡ N.table },
 }
 
 impl<N: BootName> Tables<N> {
     /// The table of the boot that N names.
     pub fn new(words: BootWords) -> Tables<N>
-        requires { words ≡ N.frames }
-        ensures { result.words ≡ N.frames }
+        requires { words ≡ N.table }
+        ensures { result.words ≡ N.table }
     {
         Tables {
             words,
@@ -39,7 +39,7 @@ impl<N: BootName> Tables<N> {
 
     /// The table, when the boot ends.
     pub fn into_words(self) -> BootWords
-        ensures { result ≡ N.frames }
+        ensures { result ≡ N.table }
     {
         let Tables { words, of: _ } = self;
         words

@@ -8,7 +8,7 @@ ghost use Rattle.cpu_part.specs.Told.{steps_of_fast, steps_of_drop};
 
 use crate::answers::{Dropped, Fast};
 use crate::boot_name::{BootName, Tables};
-use crate::cpu::{CpuLists, MAX_FRESH};
+use crate::cpu_lists::{CpuLists, MAX_FRESH};
 use crate::moves::{freshen, relist};
 use boot_words::CpuSeat;
 use frame_word::Frame;
@@ -17,13 +17,13 @@ use stock_word::{Consume, Credit};
 impl<N: BootName> CpuLists<N> {
     /// Takes the front of the list for the group, and pays for it from the CPU's stock. The answer is the first of these
     /// that holds: 32 fresh frames, an empty list, what the stock says; else the frame.
-    pub fn alloc_fast(&mut self, tables: &Tables<N>, past: &mut CpuSeat, group: u32) -> Fast
-        requires knows { KnowsItsPart N.frames past.old self.old }
-        ensures answer { FastAnswers group result past.old.last self.old past.new.last self.new }
-        ensures frame { IfGot result (λ f. f < N.frames.frames) }
-        ensures run { GrewByAll (own_past past.old.seat) (steps_of_fast self.old.number group result past.old.last)
-            (own_past past.new.seat) }
-        ensures knows { KnowsItsPart N.frames past.new self.new }
+    pub fn alloc_fast(&mut self, tables: &Tables<N>, seat: &mut CpuSeat, group: u32) -> Fast
+        requires knows { KnowsItsPart N.table seat.old self.old }
+        ensures answer { FastAnswers group result seat.old.last self.old seat.new.last self.new }
+        ensures frame { IfGot result (λ f. f < N.table.frames) }
+        ensures run { GrewByAll (own_past seat.old.past) (steps_of_fast self.old.number group result seat.old.last)
+            (own_past seat.new.past) }
+        ensures knows { KnowsItsPart N.table seat.new self.new }
     {
         if self.fresh.len() == MAX_FRESH {
             return Fast::FreshFull;
@@ -31,7 +31,7 @@ impl<N: BootName> CpuLists<N> {
         if self.list.is_empty() {
             return Fast::ListEmpty;
         }
-        match tables.words.consume(past, group) {
+        match tables.words.consume(seat, group) {
             Consume::OtherGroup => Fast::OtherGroup,
             Consume::Drained => Fast::Drained,
             Consume::Empty => Fast::NoStock,
@@ -42,15 +42,15 @@ impl<N: BootName> CpuLists<N> {
     /// Drops a fresh frame: its page goes to the stock, the frame to the end of the list. If the stock was drained,
     /// only what the CPU saw of it changes. A frame that is listed again counts as one drop and one return; the count
     /// stays at 2^64 - 1.
-    pub fn drop_fresh(&mut self, tables: &Tables<N>, past: &mut CpuSeat, frame: Frame) -> Dropped
+    pub fn drop_fresh(&mut self, tables: &Tables<N>, seat: &mut CpuSeat, frame: Frame) -> Dropped
         requires fresh { 1 ≤ times frame self.old.fresh }
-        requires knows { KnowsItsPart N.frames past.old self.old }
-        ensures answer { DropAnswers frame result past.old.last self.old past.new.last self.new }
-        ensures run { GrewByAll (own_past past.old.seat) (steps_of_drop self.old.number frame result past.old.last)
-            (own_past past.new.seat) }
-        ensures knows { KnowsItsPart N.frames past.new self.new }
+        requires knows { KnowsItsPart N.table seat.old self.old }
+        ensures answer { DropAnswers frame result seat.old.last self.old seat.new.last self.new }
+        ensures run { GrewByAll (own_past seat.old.past) (steps_of_drop self.old.number frame result seat.old.last)
+            (own_past seat.new.past) }
+        ensures knows { KnowsItsPart N.table seat.new self.new }
     {
-        match tables.words.credit(past, frame) {
+        match tables.words.credit(seat, frame) {
             Credit::Drained => Dropped::NeedVisit,
             Credit::Stocked => {
                 relist(&mut self.list, &mut self.fresh, frame);

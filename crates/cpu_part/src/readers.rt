@@ -1,10 +1,10 @@
 //! What can be read of a CPU's part.
 ghost use Rattle.std.specs.Prelude.{◌≡◌, ◌≤◌, ◌+◌, ◌↔◌, [], length, IsTrue, MatchOption};
-ghost use Rattle.step_rules.specs.State.{times};
-ghost use Rattle.cpu_part.specs.Cpus.{AreWithin, IsIdle, most_fresh, most_listed, most_pins};
+ghost use Rattle.step_rules.specs.State.{times, most_fresh, most_pins};
+ghost use Rattle.cpu_part.specs.Cpus.{AreWithin, IsIdle, most_listed};
 
 use crate::boot_name::BootName;
-use crate::cpu::CpuLists;
+use crate::cpu_lists::CpuLists;
 use crate::search::place_of;
 use frame_word::Frame;
 

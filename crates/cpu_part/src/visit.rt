@@ -10,7 +10,7 @@ ghost use Rattle.cpu_part.specs.Cpus.{most_listed};
 ghost use Rattle.cpu_part.specs.Known.{HasOwn};
 
 use crate::boot_name::{BootName, Tables};
-use crate::cpu::CpuLists;
+use crate::cpu_lists::CpuLists;
 use crate::moves::freshen;
 use boot_words::PastSeat;
 use frame_word::Frame;
@@ -19,11 +19,11 @@ impl<N: BootName> CpuLists<N> {
     /// Borrows a free frame of the zone, at the end of the list. The zone passes it out and the CPU takes it in: two steps
     /// of the run, which one load makes. The visit is open. Listed and fresh frames are fewer than 256.
     pub fn borrow(&mut self, tables: &Tables<N>, held: &mut PastSeat, frame: Frame)
-        requires held { IsHeld N.frames held.old }
+        requires held { IsHeld N.table held.old }
         requires holder { IsHolder held.old self.old.number }
-        requires legal { AreLegal (local_by_pasts N.frames held.old) (lend_run self.old.number frame) }
+        requires legal { AreLegal (local_by_pasts N.table held.old) (lend_run self.old.number frame) }
         requires room { length self.old.list + length self.old.fresh < most_listed }
-        ensures run { MakesInTurn N.frames held.old (lend_run self.old.number frame) held.new }
+        ensures run { MakesInTurn N.table held.old (lend_run self.old.number frame) held.new }
         ensures cpu { self.new ≡ record self.old { list = self.old.list ++ frame ∷ [] } }
     {
         tables.words.lend(held, self.number, frame);
@@ -32,15 +32,15 @@ impl<N: BootName> CpuLists<N> {
 
     /// Passes the front of the list back to the zone; `None` exactly if the list is empty. The visit is open.
     pub fn pass_front(&mut self, tables: &Tables<N>, held: &mut PastSeat) -> Option<Frame>
-        requires held { IsHeld N.frames held.old }
+        requires held { IsHeld N.table held.old }
         requires holder { IsHolder held.old self.old.number }
         requires legal { (f : ℕ) (rest : List ℕ) → self.old.list ≡ f ∷ rest
-            → MayMake N.frames held.old self.old.number (step.PassBack f) }
+            → MayMake N.table held.old self.old.number (step.PassBack f) }
         ensures answer { MatchOption result ((self.old.list ≡ []) × (self.new ≡ self.old))
             (λ f. PassesFront f self.old self.new) }
         ensures run { MatchOption result (held.new ≡ held.old)
-            (λ f. MakesStep N.frames held.old self.old.number (step.PassBack f) Done held.new) }
-        ensures frame { IfSome result (λ f. f < N.frames.frames) }
+            (λ f. MakesStep N.table held.old self.old.number (step.PassBack f) Done held.new) }
+        ensures frame { IfSome result (λ f. f < N.table.frames) }
     {
         let frame = self.list.pop_front()?;
         tables.words.pass_back(held, self.number, frame);
@@ -51,16 +51,16 @@ impl<N: BootName> CpuLists<N> {
     /// frame then, and the page is no longer booked to the CPU's stock: four steps of the run, which one load makes. The
     /// visit is open, and no reported page is unabsorbed.
     pub fn give_back_fresh(&mut self, tables: &Tables<N>, held: &mut PastSeat) -> Option<Frame>
-        requires held { IsHeld N.frames held.old }
+        requires held { IsHeld N.table held.old }
         requires holder { IsHolder held.old self.old.number }
         requires legal { (f : ℕ) (rest : List ℕ) → self.old.fresh ≡ f ∷ rest
-            → AreLegal (local_by_pasts N.frames held.old) (take_back_run self.old.number f) }
-        requires absorbed { ((local_by_pasts N.frames held.old).parts self.old.number).reported ≡ 0 }
+            → AreLegal (local_by_pasts N.table held.old) (take_back_run self.old.number f) }
+        requires absorbed { ((local_by_pasts N.table held.old).parts self.old.number).reported ≡ 0 }
         ensures answer { MatchOption result ((self.old.fresh ≡ []) × (self.new ≡ self.old))
             (λ f. PassesFresh f self.old self.new) }
         ensures run { MatchOption result (held.new ≡ held.old)
-            (λ f. MakesInTurn N.frames held.old (take_back_run self.old.number f) held.new) }
-        ensures frame { IfSome result (λ f. f < N.frames.frames) }
+            (λ f. MakesInTurn N.table held.old (take_back_run self.old.number f) held.new) }
+        ensures frame { IfSome result (λ f. f < N.table.frames) }
     {
         if self.fresh.is_empty() {
             return None;
@@ -72,15 +72,15 @@ impl<N: BootName> CpuLists<N> {
 
     /// Passes the oldest back frame back to the zone; `None` exactly if there is none. The visit is open.
     pub fn pass_back_unit(&mut self, tables: &Tables<N>, held: &mut PastSeat) -> Option<Frame>
-        requires held { IsHeld N.frames held.old }
+        requires held { IsHeld N.table held.old }
         requires holder { IsHolder held.old self.old.number }
         requires legal { (f : ℕ) (rest : List ℕ) → self.old.back ≡ f ∷ rest
-            → MayMake N.frames held.old self.old.number (step.PassBack f) }
+            → MayMake N.table held.old self.old.number (step.PassBack f) }
         ensures answer { MatchOption result ((self.old.back ≡ []) × (self.new ≡ self.old))
             (λ f. PassesBackUnit f self.old self.new) }
         ensures run { MatchOption result (held.new ≡ held.old)
-            (λ f. MakesStep N.frames held.old self.old.number (step.PassBack f) Done held.new) }
-        ensures frame { IfSome result (λ f. f < N.frames.frames) }
+            (λ f. MakesStep N.table held.old self.old.number (step.PassBack f) Done held.new) }
+        ensures frame { IfSome result (λ f. f < N.table.frames) }
     {
         let frame = self.back.pop_front()?;
         tables.words.pass_back(held, self.number, frame);
@@ -89,14 +89,14 @@ impl<N: BootName> CpuLists<N> {
 
     /// Takes the front of the list for the group and pays for it, always: the CPU's stock, of that group, has a page.
     pub fn take_front(&mut self, tables: &Tables<N>, held: &mut PastSeat, group: u32) -> Frame
-        requires held { IsHeld N.frames held.old }
+        requires held { IsHeld N.table held.old }
         requires holder { IsHolder held.old self.old.number }
-        requires own { HasOwn (local_by_pasts N.frames held.old) self.old }
-        requires legal { MayMake N.frames held.old self.old.number (step.Consume group) }
-        requires pays { IsAnswer (local_by_pasts N.frames held.old) self.old.number (step.Consume group) Took }
-        ensures run { MakesStep N.frames held.old self.old.number (step.Consume group) Took held.new }
+        requires own { HasOwn (local_by_pasts N.table held.old) self.old }
+        requires legal { MayMake N.table held.old self.old.number (step.Consume group) }
+        requires pays { IsAnswer (local_by_pasts N.table held.old) self.old.number (step.Consume group) Took }
+        ensures run { MakesStep N.table held.old self.old.number (step.Consume group) Took held.new }
         ensures cpu { TakesFront result self.old self.new }
-        ensures frame { result < N.frames.frames }
+        ensures frame { result < N.table.frames }
     {
         tables.words.consume_held(held, self.number, group);
         freshen(&mut self.list, &mut self.fresh)

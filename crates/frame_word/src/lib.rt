@@ -1,5 +1,4 @@
-//! The words of frames and of visits, and the rule that they keep. The words themselves are in the one table of
-//! `boot_words`.
+//! The words of frames and of visits. The words themselves are in the one table of `boot_words`.
 //!
 //! Word f is frame f's. It is 0 while no seat has a reference and exactly one seat's hand has the frame. It is 1 to 255
 //! for that many references, and 256 + cpu while it is in transit to or from CPU `cpu`. One visit word for each CPU
@@ -8,12 +7,8 @@
 
 mod answers;
 mod frame;
-pub mod laws;
-pub mod seat_totals;
-mod view;
 mod word;
 
 pub use answers::{Get, Put};
 pub use frame::Frame;
-pub use view::{FrameNote, FrameView};
 pub use word::{MARK_BASE, MAX_REFERENCES};

@@ -17,7 +17,7 @@ use Rattle.group_tree.specs.Groups.{the_root, new_row, IsLeastFreeNumber, has_gr
 use Rattle.group_tree.proofs.GroupLemmas.{CanMake, has_group-any, has_group-contains, length-full, AreGroups-initial, AreGroups-with}
 use Rattle.group_tree.proofs.GroupLemmas.{AreGroups-without, AreGroups-limited, AreGroups-flagged, limited-number, flagged-number}
 use Rattle.group_tree.proofs.CallerLemmas.{in_subtree-flagged, in_subtree-limited, in_subtree-root}
-use Rattle.group_charge.specs.Charges.{Account, Ledger, Settings, AreCharges, UsageRises, account_at, pages_of, current_of, usage_charged, total_pages, added, taken}
+use Rattle.group_charge.specs.Charges.{Account, Ledger, ReclaimSettings, AreCharges, UsageRises, account_at, pages_of, current_of, usage_charged, total_pages, added, taken}
 use Rattle.group_charge.specs.Charges.{peaked, with_event_at, charged, empty_account, initial_ledger, with_charge, with_uncharge, with_new_group}
 use Rattle.group_charge.specs.Charges.{with_group_removed, with_group_limit, with_noted, with_oom_flag}
 use Rattle.group_charge.proofs.SumLemmas.{AreDistinct, share, total-added, total-taken, usage-le-total, added-group, taken-group, peaked-group}
@@ -92,7 +92,7 @@ pub usage-le-root : (l : Ledger) (g : ℕ) → AreCharges l → current_of l g �
 usage-le-root l g facts = omega (arith, usage-le-total l.groups l.accounts g, root_usage l facts)
 
 -- ---- a change keeps the facts
-pub same_ledger : (g : List Group) (a b : List Account) (s : List Settings) → a ≡ b →
+pub same_ledger : (g : List Group) (a b : List Account) (s : List ReclaimSettings) → a ≡ b →
     ◌≡◌ {A = Ledger} (record { groups = g; accounts = a; settings = s }) (record { groups = g; accounts = b; settings = s })
 same_ledger g a b s e = ap (λ (xs : List Account). record { groups = g; accounts = xs; settings = s }) e
 

@@ -11,7 +11,7 @@ use Rattle.group_tree.specs.declared.event.EventKey.{EventKey}
 use Rattle.group_tree.specs.{with_one_more, AreGroups, has_group, in_subtree, new_row, with_group, limited, flagged, on_path}
 use Rattle.group_tree.specs.Groups.{with_limit, with_oom_group, without_group}
 use Rattle.group_tree.proofs.GroupLemmas.{has_group-contains, has_group-is, group_at-contains, limited-number, flagged-number}
-use Rattle.group_charge.specs.Charges.{Account, AreCharges, Settings, account_at, added, charged, empty_account, pages_of, peaked, taken, usage_charged}
+use Rattle.group_charge.specs.Charges.{Account, AreCharges, ReclaimSettings, account_at, added, charged, empty_account, pages_of, peaked, taken, usage_charged}
 use Rattle.group_charge.specs.Charges.{with_charge, with_event_at}
 use Rattle.group_charge.specs.Kept.{AccountsOnPath, AreUsages, account_by, accounts_of, ledger_of, usage_by, with_event, with_local_event, with_usage_peak}
 use Rattle.group_charge.proofs.ChargeLemmas.{account_at-there, same_groups}
@@ -219,7 +219,7 @@ number_below groups g facts there =
     subst (λ k. k < 64) c.1 (All-contains (λ (x : Group). x.number < 64) groups w.0 facts.numbers c.0)
 
 -- the account of a group that is there is the one kept under its number
-pub account_kept : (groups : List Group) (kept : List Account) (s : List Settings) (g : ℕ) → AreCharges (ledger_of groups kept s) → IsTrue (has_group groups g) →
+pub account_kept : (groups : List Group) (kept : List Account) (s : List ReclaimSettings) (g : ℕ) → AreCharges (ledger_of groups kept s) → IsTrue (has_group groups g) →
     account_at (ledger_of groups kept s) g ≡ Some (account_by kept g)
 account_kept groups kept s g facts there =
     let w = has_group-is groups g there in
@@ -234,13 +234,13 @@ account_kept groups kept s g facts there =
     ap (account_at (ledger_of groups kept s)) (sym own) ∙ account_at-there (ledger_of groups kept s) (account_by kept g) facts here
 
 -- and its pages are the group's own
-pub kept_pages : (groups : List Group) (kept : List Account) (s : List Settings) (g : ℕ) → AreCharges (ledger_of groups kept s) → IsTrue (has_group groups g) →
+pub kept_pages : (groups : List Group) (kept : List Account) (s : List ReclaimSettings) (g : ℕ) → AreCharges (ledger_of groups kept s) → IsTrue (has_group groups g) →
     pages_of (ledger_of groups kept s) g ≡ (account_by kept g).pages
 unfolding pages_of
 kept_pages groups kept s g facts there = ap (λ o. option_map_or (λ (a : Account). a.pages) o 0) (account_kept groups kept s g facts there)
 
 -- ---- a charge that was granted: the pages, and then the peaks
-pub kept_charged : (groups : List Group) (kept mid new : List Account) (s : List Settings) (usages : List ℕ) (g n : ℕ) → AreCharges (ledger_of groups kept s) →
+pub kept_charged : (groups : List Group) (kept mid new : List Account) (s : List ReclaimSettings) (usages : List ℕ) (g n : ℕ) → AreCharges (ledger_of groups kept s) →
     g < length kept → mid ≡ set kept g (record (account_by kept g) { pages = (account_by kept g).pages + n }) →
     AreUsages (with_charge (ledger_of groups kept s) g n) usages → AccountsOnPath groups g (with_usage_peak usages) mid new →
     accounts_of groups new ≡ charged groups (accounts_of groups kept) g n

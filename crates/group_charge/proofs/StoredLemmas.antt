@@ -8,7 +8,7 @@ use Rattle.group_tree.specs.{is_passed, has_group, in_subtree}
 use Rattle.group_tree.specs.declared.event.EventKey.{EventKey}
 use Rattle.group_tree.proofs.GroupLemmas.{CanMake}
 use Rattle.group_tree.proofs.Walks.{passed_all}
-use Rattle.group_charge.specs.Charges.{Account, AreCharges, Ledger, Settings, current_of, initial_ledger, pages_of, with_charge, with_group_limit}
+use Rattle.group_charge.specs.Charges.{Account, AreCharges, Ledger, ReclaimSettings, current_of, initial_ledger, pages_of, with_charge, with_group_limit}
 use Rattle.group_charge.specs.Charges.{with_group_removed, with_noted, with_new_group, with_oom_flag, with_uncharge}
 use Rattle.group_charge.specs.Kept.{AreSoundCharges, AreUsages, UsagesPassed, ledger_of, usage_by}
 use Rattle.group_charge.proofs.SumLemmas.{usage-le-total}
@@ -108,7 +108,7 @@ stored_removed l usages g facts there empty are = record { size = are.size; sums
 
 -- ---- all that is kept
 -- what is kept for a ledger that is in order
-pub kept_as : (groups : List Group) (accounts : List Account) (usages : List ℕ) (settings : List Settings) (l : Ledger) → ledger_of groups accounts settings ≡ l →
+pub kept_as : (groups : List Group) (accounts : List Account) (usages : List ℕ) (settings : List ReclaimSettings) (l : Ledger) → ledger_of groups accounts settings ≡ l →
     AreCharges l → length accounts ≡ 64 → AreUsages l usages → AreSoundCharges groups accounts usages settings
 kept_as groups accounts usages settings l e facts size are = record {
   charges = subst AreCharges (sym e) facts;

@@ -11,24 +11,24 @@ use Rattle.group_tree.specs.declared.event.EventKey.{EventKey}
 -- an account has a group's number, its own pages, its peak and its event counts
 pub use Rattle.group_charge.specs.declared.account.Account.{Account}
 -- memory.high, memory.low and memory.min, in pages, or None for `max`
-pub use Rattle.group_charge.specs.declared.settings.Settings.{Settings}
+pub use Rattle.group_charge.specs.declared.settings.ReclaimSettings.{ReclaimSettings}
 
 -- the groups of the tree, and an account for each, in the order in which the groups were made; by number, what is set
 pub record Ledger : Type 0 where
   pub groups : List Group
   pub accounts : List Account
-  pub settings : List Settings
+  pub settings : List ReclaimSettings
 
 -- the defaults: no memory.high, and nothing is protected
-abbrev pub no_settings : Settings
+abbrev pub no_settings : ReclaimSettings
 no_settings = record { high = None; low = Some 0; min = Some 0 }
 
 -- memory.low or memory.min is above 0
-abbrev pub is_protecting : Settings → Bool
+abbrev pub is_protecting : ReclaimSettings → Bool
 is_protecting settings = not (option_eq nat_eq settings.low (Some 0)) || not (option_eq nat_eq settings.min (Some 0))
 
 -- that of some group is
-abbrev pub are_protecting : List Settings → Bool
+abbrev pub are_protecting : List ReclaimSettings → Bool
 are_protecting settings = list_any is_protecting settings
 
 -- the account of a new group: no page, peak 0 and all counts 0
@@ -44,7 +44,7 @@ initial_ledger = record {
 }
 
 -- what is set for the group
-abbrev pub settings_of : Ledger → ℕ → Settings
+abbrev pub settings_of : Ledger → ℕ → ReclaimSettings
 settings_of l g = slice_index_or l.settings g no_settings
 
 -- the account of the group
@@ -137,7 +137,7 @@ abbrev pub with_group_kill_noted : Ledger → ℕ → Ledger
 with_group_kill_noted l g = with_noted OomGroupKill l g
 
 -- the ledger with this set for the group: nothing else changes
-abbrev pub with_settings : Ledger → ℕ → Settings → Ledger
+abbrev pub with_settings : Ledger → ℕ → ReclaimSettings → Ledger
 with_settings l g settings = record l { settings = set l.settings g settings }
 
 -- the ledger with a new group, which has an empty account and nothing set

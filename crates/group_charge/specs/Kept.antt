@@ -5,7 +5,7 @@ use Rattle.std.specs.List.{slice_index_or}
 use Rattle.group_tree.specs.declared.group.Group.{Group}
 use Rattle.group_tree.specs.{is_passed, most_groups, with_one_more, on_path}
 use Rattle.group_tree.specs.declared.event.EventKey.{EventKey}
-use Rattle.group_charge.specs.Charges.{Account, AreCharges, Ledger, Settings, current_of, empty_account}
+use Rattle.group_charge.specs.Charges.{Account, AreCharges, Ledger, ReclaimSettings, current_of, empty_account}
 
 -- the account kept under this number
 abbrev pub account_by : List Account → ℕ → Account
@@ -20,7 +20,7 @@ abbrev pub accounts_of : List Group → List Account → List Account
 accounts_of groups accounts = map (λ (x : Group). account_by accounts x.number) groups
 
 -- these groups with their accounts, and what is set
-abbrev pub ledger_of : List Group → List Account → List Settings → Ledger
+abbrev pub ledger_of : List Group → List Account → List ReclaimSettings → Ledger
 ledger_of groups accounts settings = record {
   groups = groups;
   accounts = accounts_of groups accounts;
@@ -35,7 +35,7 @@ pub record AreUsages (l : Ledger) (usages : List ℕ) : Type 0 where
 
 -- what holds of all that is kept: of accounts, usages and what is set
 pub record AreSoundCharges (groups : List Group) (accounts : List Account) (usages : List ℕ)
-    (settings : List Settings) : Type 0 where
+    (settings : List ReclaimSettings) : Type 0 where
   pub charges : AreCharges (ledger_of groups accounts settings)
   pub size : length accounts ≡ most_groups
   pub usages_are : AreUsages (ledger_of groups accounts settings) usages

@@ -18,11 +18,11 @@ most_details = 1024
 pub record KnownNotes : Type 0 where
   pub list : List Note
   pub left_out : ℕ
-  pub notes_units : Bool
+  pub notes_details : Bool
 
 -- nothing is noted, and details won't be
 abbrev pub no_notes : KnownNotes
-no_notes = record { list = []; left_out = 0; notes_units = false }
+no_notes = record { list = []; left_out = 0; notes_details = false }
 
 -- the list with one more note at the end, as long as there are fewer than `most_notes`
 abbrev pub note_added : List Note → Note → List Note
@@ -50,7 +50,7 @@ has_room_for_detail list = nat_lt (count_by is_detail list) most_details && nat_
 -- the notes with this detail at the end, if details are noted and there is room for one more
 abbrev pub detail_noted : KnownNotes → Note → KnownNotes
 detail_noted notes note =
-    if notes.notes_units && has_room_for_detail notes.list then record notes { list = notes.list ++ note ∷ [] } else notes
+    if notes.notes_details && has_room_for_detail notes.list then record notes { list = notes.list ++ note ∷ [] } else notes
 
 -- the last of a unit's frames, which are this many from `first` on
 abbrev pub last_frame : (first frames : ℕ) → ℕ
@@ -85,5 +85,5 @@ with_span None notes group first frames = with_new_span notes group first frames
 -- the unit joins the last span if it can, and is a new span otherwise.
 abbrev pub unit_noted : KnownNotes → (group first frames : ℕ) → KnownNotes
 unit_noted notes group first frames =
-    if notes.notes_units then with_span (joined_span (last_noted notes) group first frames) notes group first frames
+    if notes.notes_details then with_span (joined_span (last_noted notes) group first frames) notes group first frames
     else notes

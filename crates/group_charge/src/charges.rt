@@ -14,7 +14,7 @@ ghost use Rattle.group_charge.specs.Charges.{with_group_removed, with_new_group,
 ghost use Rattle.group_charge.specs.Charges.{with_settings, with_uncharge};
 
 use crate::account::Account;
-use crate::settings::{Settings, SettingsTable};
+use crate::settings::{ReclaimSettings, SettingsTable};
 use crate::walks;
 use group_tree::event::{EventCounts, EventKey};
 use group_tree::fault::Fault;
@@ -110,7 +110,7 @@ impl Charges {
     {
         let group = self.tree.make(path)?;
         self.accounts[group.number() as usize] = new_account(group);
-        self.settings.set(group, Settings::none());
+        self.settings.set(group, ReclaimSettings::none());
         Ok(group)
     }
 
@@ -137,7 +137,7 @@ impl Charges {
     }
 
     /// Sets memory.high, memory.low and memory.min of the group. Only later charges and reclaims read them.
-    pub fn set_settings(&mut self, group: GroupId, settings: Settings)
+    pub fn set_settings(&mut self, group: GroupId, settings: ReclaimSettings)
         ensures { self.new ≡ with_settings self.old group settings }
     {
         self.settings.set(group, settings);
@@ -153,7 +153,7 @@ impl Charges {
         ensures pages { SamePages self.old self.new }
     {
         self.tree.remove(group);
-        self.settings.set(group, Settings::none());
+        self.settings.set(group, ReclaimSettings::none());
     }
 
     /// The usage of an existing group, in pages (memory.current): the pages charged to it and to all groups below it.
@@ -199,7 +199,7 @@ impl Charges {
     }
 
     /// What is set for the group: memory.high, memory.low and memory.min.
-    pub fn settings(&self, group: GroupId) -> Settings
+    pub fn settings(&self, group: GroupId) -> ReclaimSettings
         ensures { result ≡ settings_of self.now group }
     {
         self.settings.of(group)

@@ -61,8 +61,8 @@ pub enum Note {
         min: u32,
         low: u32,
     },
-    /// The third pass freed pages that memory.low protected, so the group's events count one more `low`. When its turn
-    /// began, `usage` pages were charged in its subtree; memory.min protected `min` of them and memory.low `low`.
+    /// The third pass freed pages of the group, so its events count one more `low`. When its turn began, `usage` pages
+    /// were charged in its subtree; memory.min protected `min` of them and memory.low `low`, which was more.
     Low {
         group: GroupId,
         usage: u32,

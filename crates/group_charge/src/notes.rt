@@ -30,7 +30,7 @@ pub struct Notes {
     // How many freed frames no note tells of.
     left_out: u64,
     // Whether details are noted.
-    notes_units: bool,
+    notes_details: bool,
 }
 
 impl Model for Notes {
@@ -39,7 +39,7 @@ impl Model for Notes {
 
     ghost Value = { KnownNotes };
 
-    ghost view = { λ n. record { list = n.notes.items; left_out = n.left_out; notes_units = n.notes_units } };
+    ghost view = { λ n. record { list = n.notes.items; left_out = n.left_out; notes_details = n.notes_details } };
 
     ghost invariant = { λ n. (most_notes ≤ vec_capacity n.notes) × (n.details ≡ count_by is_detail n.notes.items) };
 }
@@ -55,15 +55,15 @@ impl Notes {
             notes,
             details: 0,
             left_out: 0,
-            notes_units: false,
+            notes_details: false,
         })
     }
 
-    /// Notes freed units and what protects groups from now on, or no longer. The notes stay.
-    pub fn set_unit_notes(&mut self, is_on: bool)
-        ensures { self.new ≡ record self.old { notes_units = is_on } }
+    /// Keeps details from now on, or no longer. The notes stay.
+    pub fn set_detail_notes(&mut self, is_on: bool)
+        ensures { self.new ≡ record self.old { notes_details = is_on } }
     {
-        self.notes_units = is_on;
+        self.notes_details = is_on;
     }
 
     /// Adds a note, unless there are 2,112.
@@ -87,7 +87,7 @@ impl Notes {
     pub fn note_detail(&mut self, note: Note)
         ensures { self.new ≡ detail_noted self.old note }
     {
-        if self.notes_units && self.has_room_for_detail() {
+        if self.notes_details && self.has_room_for_detail() {
             self.details += usize::from(is_detail(&note));
             self.notes.push_reserved(note);
         }
@@ -101,7 +101,7 @@ impl Notes {
     pub fn note_unit(&mut self, group: GroupId, first: u32, frames: u32)
         ensures { self.new ≡ unit_noted self.old group first frames }
     {
-        if self.notes_units {
+        if self.notes_details {
             self.add_unit(group, first, frames);
         }
     }

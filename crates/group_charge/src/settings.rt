@@ -10,7 +10,7 @@ use std::marker::Model;
 
 /// What reclaim does for a group, in pages. None is `max`.
 #[derive(Clone, Copy, Debug, PartialEq, Eq)]
-pub struct Settings {
+pub struct ReclaimSettings {
     /// memory.high: before a charge would exceed it, pages are reclaimed.
     pub high: Option<u32>,
     /// memory.low: reclaim spares this much of the usage while it finds pages elsewhere.
@@ -19,12 +19,12 @@ pub struct Settings {
     pub min: Option<u32>,
 }
 
-impl Settings {
+impl ReclaimSettings {
     /// The defaults: no memory.high, and nothing is protected.
-    pub fn none() -> Settings
+    pub fn none() -> ReclaimSettings
         ensures { result ≡ no_settings }
     {
-        Settings {
+        ReclaimSettings {
             high: None,
             low: Some(0),
             min: Some(0),
@@ -42,7 +42,7 @@ impl Settings {
 /// What is set for each group, by number.
 #[derive(Debug, Drop)]
 pub(crate) struct SettingsTable {
-    settings: [Settings; MAX_GROUPS],
+    settings: [ReclaimSettings; MAX_GROUPS],
     // Whether some group's settings protect it. Kept so that a tree in which nothing is protected costs nothing.
     is_protecting: bool,
 }
@@ -50,9 +50,9 @@ pub(crate) struct SettingsTable {
 impl Model for SettingsTable {
     ghost use Rattle.std.specs.Prelude.{◌≡◌, List, length};
     ghost use Rattle.group_tree.specs.Bounds.{most_groups};
-    ghost use Rattle.group_charge.specs.Charges.{Settings, are_protecting};
+    ghost use Rattle.group_charge.specs.Charges.{ReclaimSettings, are_protecting};
 
-    ghost Value = { List Settings };
+    ghost Value = { List ReclaimSettings };
 
     ghost view = { λ t. t.settings };
 
@@ -65,13 +65,13 @@ impl SettingsTable {
         ensures { result ≡ replicate most_groups no_settings }
     {
         SettingsTable {
-            settings: [Settings::none(); MAX_GROUPS],
+            settings: [ReclaimSettings::none(); MAX_GROUPS],
             is_protecting: false,
         }
     }
 
     /// What is set for the group.
-    pub(crate) fn of(&self, group: GroupId) -> Settings
+    pub(crate) fn of(&self, group: GroupId) -> ReclaimSettings
         ensures { result ≡ slice_index_or self.now group no_settings }
     {
         self.settings[group.number() as usize]
@@ -85,7 +85,7 @@ impl SettingsTable {
     }
 
     /// Replaces what is set for the group.
-    pub(crate) fn set(&mut self, group: GroupId, settings: Settings)
+    pub(crate) fn set(&mut self, group: GroupId, settings: ReclaimSettings)
         ensures { self.new ≡ set self.old group settings }
     {
         self.settings[group.number() as usize] = settings;

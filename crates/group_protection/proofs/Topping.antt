@@ -9,7 +9,7 @@ use Rattle.group_tree.specs.Groups.{AreGroups, in_subtree, parent_of}
 use Rattle.group_tree.proofs.AncestorLemmas.{parent_of-none_root}
 use Rattle.group_tree.proofs.CallerLemmas.{in_subtree-above, in_subtree-above_parent, in_subtree-antisym, in_subtree-below, in_subtree-parent_of, in_subtree-refl, in_subtree-root, in_subtree-trans}
 use Rattle.group_tree.proofs.Walks.{parent_depth}
-use Rattle.group_charge.specs.declared.settings.Settings.{Settings}
+use Rattle.group_charge.specs.declared.settings.ReclaimSettings.{ReclaimSettings}
 use Rattle.group_charge.specs.Charges.{Ledger, current_of, no_settings}
 use Rattle.group_protection.specs.declared.protecting.Key.TheVariants.{Min}
 use Rattle.group_protection.specs.Protections.{IsKeptByMin, effective, setting}
@@ -44,7 +44,7 @@ module _ (groups : List Group) (facts : AreGroups groups) (target : ℕ) where
   top_of group below ne = top_at (depth_at groups group) group (omega arith) below ne
 
 same_setting : (before after : Ledger) (g : ℕ) → after.settings ≡ before.settings → setting Min after g ≡ setting Min before g
-same_setting before after g same = ap (λ (s : List Settings). unwrap_or (slice_index_or s g no_settings).min (2 ^ 32 - 1)) same
+same_setting before after g same = ap (λ (s : List ReclaimSettings). unwrap_or (slice_index_or s g no_settings).min (2 ^ 32 - 1)) same
 
 -- a group that has no more pages than memory.min protected
 pub kept_by_min : (before after : Ledger) (target group : ℕ) → AreGroups before.groups → after.groups ≡ before.groups → after.settings ≡ before.settings

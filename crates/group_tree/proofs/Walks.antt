@@ -4,7 +4,7 @@ use Rattle.std.proofs.Common.{◌≡◌, ◌≢◌, ℕ, ◌<◌, Bool, true, fa
 use Rattle.std.proofs.Common.{⊎_elim, ◌⊎◌, inl, inr}
 use Rattle.std.specs.Option.{option_map_or}
 use Rattle.std.proofs.lemmas.Option.{none-some, same_Some}
-use Rattle.group_tree.specs.{depth_at, ancestors_of, ancestors_from, is_ahead, is_passed, depth_of, has_group, in_subtree, parent_of, AreGroups}
+use Rattle.group_tree.specs.{depth_at, ancestors_of, ancestors_from, is_in_subtree, is_passed, depth_of, has_group, in_subtree, parent_of, AreGroups}
 use Rattle.group_tree.proofs.AncestorLemmas.{ancestors_of-step, parent_of-none_root}
 use Rattle.std.proofs.lemmas.Bool.{both_ways, cases_Bool, false_from_ne_true}
 use Rattle.group_tree.specs.declared.group.Group.{Group}
@@ -230,7 +230,7 @@ passed_here groups g m there =
     (cases_Bool (in_subtree groups m g))
 
 -- it is passed after its turn
-ahead_of_own_parent : (groups : List Group) (m : ℕ) (o : Option ℕ) → AreGroups groups → parent_of groups m ≡ o → is_ahead groups m o ≡ false
+ahead_of_own_parent : (groups : List Group) (m : ℕ) (o : Option ℕ) → AreGroups groups → parent_of groups m ≡ o → is_in_subtree groups m o ≡ false
 ahead_of_own_parent groups m None facts e = refl
 ahead_of_own_parent groups m (Some p) facts e =
     false_from_ne_true (in_subtree groups m p) (λ t.
@@ -244,7 +244,7 @@ passed_on groups g m facts on = rw (on, ahead_of_own_parent groups m (parent_of 
 
 -- and no other group is
 ahead_others : (groups : List Group) (m k : ℕ) (o : Option ℕ) → AreGroups groups → has_group groups m ≡ true → parent_of groups m ≡ o → k ≢ m →
-    in_subtree groups k m ≡ is_ahead groups k o
+    in_subtree groups k m ≡ is_in_subtree groups k o
 ahead_others groups m k None facts there e other =
     false_from_ne_true (in_subtree groups k m) (λ t.
     let root : m ≡ 0 = parent_of-none_root groups m facts there e in

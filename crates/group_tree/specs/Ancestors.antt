@@ -28,7 +28,7 @@ abbrev pub ancestors_from : List Group → Option ℕ → List ℕ
 ancestors_from groups None = []
 ancestors_from groups (Some g) = ancestors_of groups g
 
--- the walk is over, or its next group exists
+-- the group exists, if there is one
 abbrev pub is_there : List Group → Option ℕ → Bool
 is_there groups None = true
 is_there groups (Some g) = has_group groups g
@@ -39,11 +39,11 @@ pub record IsWalk (groups : List Group) (next : Option ℕ) : Type 0 where
   pub there : IsTrue (is_there groups next)
 
 -- ---- how far a walk has come
--- k is the walk's next group or an ancestor of it
-abbrev pub is_ahead : List Group → ℕ → Option ℕ → Bool
-is_ahead groups k None = false
-is_ahead groups k (Some m) = in_subtree groups k m
+-- there is a group, and it is in the subtree of k
+abbrev pub is_in_subtree : List Group → ℕ → Option ℕ → Bool
+is_in_subtree groups k None = false
+is_in_subtree groups k (Some m) = in_subtree groups k m
 
 -- k is on the path of g, and the walk has passed it
 abbrev pub is_passed : List Group → ℕ → Option ℕ → ℕ → Bool
-is_passed groups g next k = in_subtree groups k g && not (is_ahead groups k next)
+is_passed groups g next k = in_subtree groups k g && not (is_in_subtree groups k next)

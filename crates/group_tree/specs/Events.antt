@@ -3,8 +3,8 @@ use Rattle.std.specs.Prelude.{ℕ, ◌==◌, Bool, List, [], ◌∷◌, map, if�
 use Rattle.std.specs.List.{slice_index_or}
 use Rattle.group_tree.specs.declared.event.EventKey.TheVariants.{Low, High, Max, Oom, OomKill, OomGroupKill}
 use Rattle.group_tree.specs.Room.{one_more}
--- pages that memory.low protects were reclaimed; a charge was about to exceed memory.high, or the limit; reclaim could
--- not keep the limit; a group was killed; a group was killed as a whole
+-- a third pass freed pages of a group of which memory.low protects more than memory.min; a charge was about to exceed
+-- memory.high, or the limit; reclaim could not keep the limit; a group was killed; a group was killed as a whole
 pub use Rattle.group_tree.specs.declared.event.EventKey.{EventKey}
 
 -- all keys, in the order of the lines of memory.events

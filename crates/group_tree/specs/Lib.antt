@@ -8,7 +8,7 @@ pub mod Path
 pub mod Room
 pub mod Text
 -- what other crates and the proofs import by one name, `Rattle.group_tree.specs`
-pub use Rattle.group_tree.specs.Ancestors.{ancestors_from, ancestors_of, depth_at, is_ahead, is_passed, is_there}
+pub use Rattle.group_tree.specs.Ancestors.{ancestors_from, ancestors_of, depth_at, is_in_subtree, is_passed, is_there}
 pub use Rattle.group_tree.specs.Bounds.{most_groups, most_names}
 pub use Rattle.group_tree.specs.Events.{EventCounts, all_keys, count_of, is_same_key, key_name, no_events, with_one_more}
 pub use Rattle.group_tree.specs.Groups.{AreGroups, IsLeastFreeNumber, flagged, has_child, has_group, in_subtree, initial_groups, is_oom_group}

@@ -11,7 +11,7 @@ const KEYS: usize = 6;
 /// The kinds of event that are counted: the keys of memory.events.
 #[derive(Clone, Copy, Debug, PartialEq, Eq)]
 pub enum EventKey {
-    /// Pages that memory.low protects were reclaimed.
+    /// A third pass of reclaim freed pages of a group of which memory.low protects more than memory.min.
     Low,
     /// A charge was about to exceed memory.high.
     High,

@@ -23,7 +23,7 @@ wrote_alone begun steps later new watched whole = (watched.wrote whole).added �
 
 line_watched : (on : Terms) (line : Line) (s e : SystemState) (answer : List ℕ) (one : ServesLine on line s e answer)
     → Watches s.locked.machine.run.watch one.steps e.locked.machine.run.watch
-line_watched on line s e answer one = line_seen on.frames on.is_explained line s one.steps e one.tells.plain one.tells.so
+line_watched on line s e answer one = line_seen on.table on.is_explained line s one.steps e one.tells.plain one.tells.so
 
 module _ {T E : Type 0} (r : Result T E) (on : Terms) (text : List ℕ) (line : Line) (before begun after : SystemState) (answer old new : List ℕ)
     (renews : RenewsWatch before begun) (serves : ServesLine on line begun after answer) where

@@ -1,9 +1,9 @@
 -- The history of a session's turns: what their steps are, and what holds after each line that was served.
 use Rattle.std.specs.Prelude.{ℕ, ◌+◌, List, [], ◌∷◌, ◌++◌, Option, None, Some, IfSome}
-use Rattle.frame_word.specs.Seats.{KnownTable}
 use Rattle.zone_blocks.specs.declared.config.Config.{Config}
 use Rattle.step_rules.specs.After.{Run, IsLegalRun}
-use Rattle.mem_machine.specs.{AgreesWithRun, zone_of}
+use Rattle.boot_words.specs.{zone_of_boot, KnownTable}
+use Rattle.mem_machine.specs.{AgreesWithRun}
 use Rattle.mem_history.specs.Whole.{GoesOnTo, ShowsAll}
 use Rattle.mem_system.specs.Cpus.{parts_of}
 use Rattle.script_lines.specs.declared.line.Line.{Line}
@@ -27,7 +27,7 @@ abbrev pub steps_of_turn : (on : SessionTerms) (sizes : Config) (number : ℕ) (
 steps_of_turn on sizes number None served before after answer one = []
 steps_of_turn on sizes number (Some text) None before after answer one = []
 steps_of_turn on sizes number (Some text) (Some line) before after answer one =
-    steps_in_form on.form on.frames text line before after answer one.1
+    steps_in_form on.form on.table text line before after answer one.1
 
 -- the steps of turns, one after the other
 abbrev pub steps_of_turns : (on : SessionTerms) (sizes : Config) (number : ℕ) (turns : List Turn)
@@ -43,7 +43,7 @@ abbrev pub TurnsKeepPromise : (on : SessionTerms) (sizes : Config) (number : ℕ
     (before after : SystemState) → AnswersTurns on sizes number turns before after → (run : Run) → Type 0
 TurnsKeepPromise on sizes number [] before after answers run = Unit {0}
 TurnsKeepPromise on sizes number (turn ∷ turns) before after answers run =
-    IfSome turn.served (λ line. KeepsPromise on.frames
+    IfSome turn.served (λ line. KeepsPromise on.table
     (run ++ steps_of_turn on sizes number turn.text turn.served before answers.0 turn.answer answers.1) answers.0)
     × TurnsKeepPromise on sizes (number + 1) turns answers.0 after answers.2
     (run ++ steps_of_turn on sizes number turn.text turn.served before answers.0 turn.answer answers.1)
@@ -53,9 +53,9 @@ TurnsKeepPromise on sizes number (turn ∷ turns) before after answers run =
 abbrev pub LegalTurnsKeepIt : Type 0
 LegalTurnsKeepIt = (on : SessionTerms) (sizes : Config) (number : ℕ) (turns : List Turn) (before after : SystemState)
     (answers : AnswersTurns on sizes number turns before after) (run : Run)
-    → ShowsAll on.frames run before.locked.machine (parts_of before.cpus)
-    → IsLegalRun (zone_of on.frames) (run ++ steps_of_turns on sizes number turns before after answers)
-    → GoesOnTo on.frames run before.locked.machine (run ++ steps_of_turns on sizes number turns before after answers)
+    → ShowsAll on.table run before.locked.machine (parts_of before.cpus)
+    → IsLegalRun (zone_of_boot on.table) (run ++ steps_of_turns on sizes number turns before after answers)
+    → GoesOnTo on.table run before.locked.machine (run ++ steps_of_turns on sizes number turns before after answers)
     after.locked.machine (parts_of after.cpus)
-    × (AgreesWithRun on.frames run before.locked.machine.ledger
+    × (AgreesWithRun on.table run before.locked.machine.ledger
     → TurnsKeepPromise on sizes number turns before after answers run)

@@ -1,7 +1,7 @@
 -- What contracts see of a server.
 use Rattle.std.specs.Prelude.{◌≡◌}
-use Rattle.frame_word.specs.Seats.{KnownTable}
 use Rattle.zone_blocks.specs.declared.config.Config.{Config}
+use Rattle.boot_words.specs.Tables.{KnownTable}
 use Rattle.script_replay.specs.Lines.{SystemState}
 use Rattle.line_server.specs.declared.form.SessionForm.{SessionForm}
 use Rattle.line_server.specs.Forms.{SessionTerms, session_terms}

@@ -1,7 +1,7 @@
 -- What a line is answered in a session.
 use Rattle.std.specs.Prelude.{◌≡◌, ◌⊎◌, ℕ, true, false, List, [], ◌∷◌, ◌++◌, Option, None, Some, Result, IfOk, Vec, codes}
-use Rattle.frame_word.specs.Seats.{KnownTable}
 use Rattle.zone_blocks.specs.declared.config.Config.{Config}
+use Rattle.boot_words.specs.Tables.{KnownTable}
 use Rattle.script_lines.specs.Script.{IsLineText, is_skipped}
 use Rattle.script_lines.specs.declared.line.Line.{Line}
 use Rattle.script_replay.specs.{ServesLine, SystemState, terms}
@@ -30,7 +30,7 @@ ServesInForm Steps frames text line before after answer =
 abbrev pub AnswersServed : SessionTerms → (text : List ℕ) → Line → (before after : SystemState) → (answer : List ℕ)
     → Type 0
 AnswersServed on text line before after answer =
-    ServesInForm on.form on.frames text line before after answer
+    ServesInForm on.form on.table text line before after answer
 
 -- Nothing is served: the line is empty or a comment, and has no answer; or it is bad, and the answer says why.
 abbrev pub AnswersUnserved : SessionForm → Config → (text answer : List ℕ) → Type 0

@@ -24,8 +24,8 @@ pub fn answer_line<N: BootName>(
     line: &Line<'_>,
     text: &[u8],
 ) -> Result<Vec<u8>, AllocError>
-    requires there { LineInRange N.frames.frames (length cpus.old) line.now }
-    ensures served { GivesAnswer result (AnswersServed (session_terms N.frames form) text.now line.now
+    requires there { LineInRange N.table.frames (length cpus.old) line.now }
+    ensures served { GivesAnswer result (AnswersServed (session_terms N.table form) text.now line.now
         (system_state locked.old cpus.old) (system_state locked.new cpus.new)) }
 {
     match form {

@@ -36,8 +36,8 @@ pub fn log_line<N: BootName>(
     text: &[u8],
     log: &mut Vec<u8>,
 ) -> Result<(), AllocError>
-    requires there { LineInRange N.frames.frames (length cpus.old) line.now }
-    ensures logged { AddsPart result log.old.items log.new.items (LogsLine (terms N.frames true) text.now
+    requires there { LineInRange N.table.frames (length cpus.old) line.now }
+    ensures logged { AddsPart result log.old.items log.new.items (LogsLine (terms N.table true) text.now
         line.now (system_state locked.old cpus.old) (system_state locked.new cpus.new)) }
 {
     locked.set_watch(Watch::logging(alloc));

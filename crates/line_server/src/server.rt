@@ -51,7 +51,7 @@ impl<N: BootName> Model for Server<N> {
       state = system_state s.locked s.cpus.items;
     } };
 
-    ghost invariant = { λ s. (length s.cpus.items ≡ N.frames.cpus) × IsSizedAs s.sizes N.frames
+    ghost invariant = { λ s. (length s.cpus.items ≡ N.table.cpus) × IsSizedAs s.sizes N.table
         × HasValidCounts s.sizes × IsNames s.names };
 }
 
@@ -66,8 +66,8 @@ impl<N: BootName> Server<N> {
         form: SessionForm,
     ) -> Server<N>
         requires names { IsNames names }
-        requires count { length cpus.items ≡ N.frames.cpus }
-        requires sized { IsSizedAs sizes N.frames }
+        requires count { length cpus.items ≡ N.table.cpus }
+        requires sized { IsSizedAs sizes N.table }
         requires counts { HasValidCounts sizes }
         ensures state { result.state ≡ system_state locked cpus.items }
         ensures sizes { result.sizes ≡ sizes }
@@ -86,7 +86,7 @@ impl<N: BootName> Server<N> {
     /// The parts of the boot again.
     pub fn into_parts(self) -> (Locked<N>, Tables<N>, Vec<Cpu<N>>)
         ensures state { system_state result.0 result.2.items ≡ self.state }
-        ensures count { length result.2.items ≡ N.frames.cpus }
+        ensures count { length result.2.items ≡ N.table.cpus }
     {
         let Server {
             names: _,
@@ -107,9 +107,9 @@ impl<N: BootName> Server<N> {
         input: &mut I,
         output: &mut O,
     ) -> Result<(), ServeFault>
-        ensures served { OnOk result (ServesSession (terms_of N.frames self.old) self.old.sizes
+        ensures served { OnOk result (ServesSession (terms_of N.table self.old) self.old.sizes
             (I.remaining input.old) self.old.state self.new.state (O.contents output.old) (O.contents output.new)) }
-        ensures failed { IfErr result (FailsSession (terms_of N.frames self.old) self.old.sizes
+        ensures failed { IfErr result (FailsSession (terms_of N.table self.old) self.old.sizes
             (I.remaining input.old) self.old.state self.new.state (O.contents output.old) (O.contents output.new)) }
         ensures terms { KeepsTerms self.old self.new }
     {
@@ -132,9 +132,9 @@ impl<N: BootName> Server<N> {
         input: &mut I,
         output: &mut O,
     ) -> Result<(), ServeFault>
-        ensures served { OnOk result (ServesSession (terms_of N.frames self.old) self.old.sizes
+        ensures served { OnOk result (ServesSession (terms_of N.table self.old) self.old.sizes
             (I.remaining input.old) self.old.state self.new.state (O.contents output.old) (O.contents output.new)) }
-        ensures failed { IfErr result (FailsSession (terms_of N.frames self.old) self.old.sizes
+        ensures failed { IfErr result (FailsSession (terms_of N.table self.old) self.old.sizes
             (I.remaining input.old) self.old.state self.new.state (O.contents output.old) (O.contents output.new)) }
         ensures terms { KeepsTerms self.old self.new }
     {
@@ -154,10 +154,10 @@ impl<N: BootName> Server<N> {
         input: &mut I,
         output: &mut O,
     ) -> Result<bool, ServeFault>
-        ensures served { IfOk result (EndsTurn (terms_of N.frames self.old) self.old.sizes number
+        ensures served { IfOk result (EndsTurn (terms_of N.table self.old) self.old.sizes number
             (I.remaining input.old) (I.remaining input.new) self.old.state self.new.state
             (O.contents output.old) (O.contents output.new)) }
-        ensures failed { IfErr result (FailsTurn (terms_of N.frames self.old) self.old.sizes number
+        ensures failed { IfErr result (FailsTurn (terms_of N.table self.old) self.old.sizes number
             self.old.state self.new.state (O.contents output.old) (O.contents output.new)) }
         ensures terms { KeepsTerms self.old self.new }
     {
@@ -179,10 +179,10 @@ impl<N: BootName> Server<N> {
         number: usize,
         input_line: &InputLine,
     ) -> Result<Vec<u8>, AllocError>
-        ensures answered { IfOk result (λ answer. WritesTurn (terms_of N.frames self.old) self.old.sizes
+        ensures answered { IfOk result (λ answer. WritesTurn (terms_of N.table self.old) self.old.sizes
             number (text_of input_line.now) self.old.state self.new.state answer.items) }
         ensures failed { OnErr result
-            (ServesAtMost (terms_of N.frames self.old) self.old.state self.new.state) }
+            (ServesAtMost (terms_of N.table self.old) self.old.state self.new.state) }
         ensures terms { KeepsTerms self.old self.new }
     {
         let mut answer = self.answer_plainly(alloc, number, input_line)?;
@@ -197,10 +197,10 @@ impl<N: BootName> Server<N> {
         number: usize,
         input_line: &InputLine,
     ) -> Result<Vec<u8>, AllocError>
-        ensures answered { IfOk result (λ answer. HasAnswer (terms_of N.frames self.old) self.old.sizes
+        ensures answered { IfOk result (λ answer. HasAnswer (terms_of N.table self.old) self.old.sizes
             number (text_of input_line.now) self.old.state self.new.state answer.items) }
         ensures failed { OnErr result
-            (ServesAtMost (terms_of N.frames self.old) self.old.state self.new.state) }
+            (ServesAtMost (terms_of N.table self.old) self.old.state self.new.state) }
         ensures terms { KeepsTerms self.old self.new }
     {
         match input_line {
@@ -216,10 +216,10 @@ impl<N: BootName> Server<N> {
         number: usize,
         text: &[u8],
     ) -> Result<Vec<u8>, AllocError>
-        ensures answered { IfOk result (λ answer. HasAnswer (terms_of N.frames self.old) self.old.sizes
+        ensures answered { IfOk result (λ answer. HasAnswer (terms_of N.table self.old) self.old.sizes
             number (Some text.now) self.old.state self.new.state answer.items) }
         ensures failed { OnErr result
-            (ServesAtMost (terms_of N.frames self.old) self.old.state self.new.state) }
+            (ServesAtMost (terms_of N.table self.old) self.old.state self.new.state) }
         ensures terms { KeepsTerms self.old self.new }
     {
         if is_skipped(text) {

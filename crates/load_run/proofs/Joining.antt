@@ -3,15 +3,14 @@ use Rattle.std.proofs.Common.{◌≡◌, ◌∙◌, ℕ, zero, suc, ◌+◌, Boo
 use Rattle.std.specs.Prelude.{option_map, slice_get}
 use Rattle.std.proofs.lemmas.List.Elements.{All-take, All-drop}
 use Rattle.std.proofs.lemmas.Option.{get_or_from_slice_get, slice_get-map}
-use Rattle.frame_word.specs.Seats.{KnownTable}
 use Rattle.zone_blocks.specs.declared.config.Config.{Config}
 use Rattle.step_rules.specs.After.{Run}
 use Rattle.step_rules.proofs.PhaseLemmas.{none_some}
 use Rattle.boot_words.specs.declared.past.Past.{Past}
-use Rattle.boot_words.specs.{IsRunSoFar, own_past, AllOf, OthersFollow}
+use Rattle.boot_words.specs.{IsRunSoFar, own_past, AllOf, OthersFollow, KnownTable}
 use Rattle.mem_system.specs.{IsSizedAs, KnownSystem, CpuInRun, pasts_of}
 use Rattle.script_lines.specs.declared.line.Line.{Line}
-use Rattle.script_replay.specs.{HasRun, ServesAll, SystemState, steps_of_served, LineInRange, boot_tables, numbered_terms, AreAllAnswers}
+use Rattle.script_replay.specs.{HasRun, ServesAll, SystemState, steps_of_served, LineInRange, known_system, numbered_terms, AreAllAnswers}
 use Rattle.script_replay.specs.{workers_from, lines_before_go, GrewByChanges}
 use Rattle.script_replay.proofs.Gaining.{all_lines_go_on}
 use Rattle.script_replay.proofs.Keeping.{legal_lines_keep_it}
@@ -45,22 +44,22 @@ record TellsAt (before : List CpuInRun) (told : List Run) (index : ℕ) (after :
   steps_are : slice_get told index ≡ Some steps
   grew : GrewByChanges cpu.past steps after.past
 
-tells_at : (tables : KnownSystem) (first : ℕ) (before after : List CpuInRun) (lines : List Line) (is_numbered : Bool) (told : List Run) (text : List ℕ)
-    → AreAllAnswers tables (workers_from first before lines is_numbered) after told text → (index : ℕ) (cpu : CpuInRun) → slice_get after index ≡ Some cpu
+tells_at : (system : KnownSystem) (first : ℕ) (before after : List CpuInRun) (lines : List Line) (is_numbered : Bool) (told : List Run) (text : List ℕ)
+    → AreAllAnswers system (workers_from first before lines is_numbered) after told text → (index : ℕ) (cpu : CpuInRun) → slice_get after index ≡ Some cpu
     → TellsAt before told index cpu
-tells_at tables first [] [] lines is_numbered told text all index cpu at = absurd (none_some cpu at)
-tells_at tables first [] (d ∷ after) lines is_numbered told text all index cpu at = absurd all
-tells_at tables first (c ∷ before) [] lines is_numbered told text all index cpu at = absurd (none_some cpu at)
-tells_at tables first (c ∷ before) (d ∷ after) lines is_numbered [] text all index cpu at = absurd all
-tells_at tables first (c ∷ before) (d ∷ after) lines is_numbered (steps ∷ told) text all zero cpu at = record {
+tells_at system first [] [] lines is_numbered told text all index cpu at = absurd (none_some cpu at)
+tells_at system first [] (d ∷ after) lines is_numbered told text all index cpu at = absurd all
+tells_at system first (c ∷ before) [] lines is_numbered told text all index cpu at = absurd (none_some cpu at)
+tells_at system first (c ∷ before) (d ∷ after) lines is_numbered [] text all index cpu at = absurd all
+tells_at system first (c ∷ before) (d ∷ after) lines is_numbered (steps ∷ told) text all zero cpu at = record {
   cpu = c;
   steps = steps;
   cpu_is = refl;
   steps_are = refl;
   grew = subst (λ (x : CpuInRun). GrewByChanges c.past steps x.past) (get_or_from_slice_get (d ∷ after) 0 cpu d at) all.2.grew;
 }
-tells_at tables first (c ∷ before) (d ∷ after) lines is_numbered (steps ∷ told) text all (suc index) cpu at =
-    let rest = tells_at tables (first + 1) before after lines is_numbered told all.1 all.3 index cpu at in
+tells_at system first (c ∷ before) (d ∷ after) lines is_numbered (steps ∷ told) text all (suc index) cpu at =
+    let rest = tells_at system (first + 1) before after lines is_numbered told all.1 all.3 index cpu at in
     record { cpu = rest.cpu; steps = rest.steps; cpu_is = rest.cpu_is; steps_are = rest.steps_are; grew = rest.grew }
 
 past_at : (cpus : List CpuInRun) (index : ℕ) (cpu : CpuInRun) → slice_get cpus index ≡ Some cpu → slice_get (pasts_of cpus) index ≡ Some (own_past cpu.past)
@@ -76,17 +75,17 @@ cpu_at (c ∷ cpus) (suc index) p at = cpu_at cpus index p at
 -- ---- one run
 
 -- the pasts of all CPUs at `go` are this run and others' steps, and the CPUs went on as they told
-module _ (beginning : Run) (z : Past) (tables : KnownSystem) (before after : List CpuInRun) (lines : List Line) (is_numbered : Bool) (told : List Run)
+module _ (beginning : Run) (z : Past) (system : KnownSystem) (before after : List CpuInRun) (lines : List Line) (is_numbered : Bool) (told : List Run)
     (text : List ℕ) (seen : AllOf (HasSeen beginning) (pasts_of before)) (run : Run) (so_far : IsRunSoFar run z (pasts_of before))
-    (all : AreAllAnswers tables (workers_from 1 before lines is_numbered) after told text) where
+    (all : AreAllAnswers system (workers_from 1 before lines is_numbered) after told text) where
   number_before : (index : ℕ) (cpu : CpuInRun) → slice_get before index ≡ Some cpu → (own_past cpu.past).number ≡ suc index
   number_before index cpu at = so_far.number index (own_past cpu.past) (past_at before index cpu at)
 
   -- each CPU's past after its lines
   lines_follow : (index : ℕ) (cpu : CpuInRun) (at : slice_get after index ≡ Some cpu)
-      → ChangesFollow (suc index) beginning (tells_at tables 1 before after lines is_numbered told text all index cpu at).steps (own_past cpu.past).seen
+      → ChangesFollow (suc index) beginning (tells_at system 1 before after lines is_numbered told text all index cpu at).steps (own_past cpu.past).seen
   lines_follow index cpu at =
-      let tells = tells_at tables 1 before after lines is_numbered told text all index cpu at in
+      let tells = tells_at system 1 before after lines is_numbered told text all index cpu at in
       let was = own_past tells.cpu.past in
       let has : HasSeen beginning was = at_index (HasSeen beginning) (pasts_of before) index was seen (past_at before index tells.cpu tells.cpu_is) in
       let made = follow_both was.number beginning [] was.seen tells.grew.made (own_past cpu.past).seen (others_follow was.number beginning was.seen has)
@@ -97,7 +96,7 @@ module _ (beginning : Run) (z : Past) (tables : KnownSystem) (before after : Lis
   numbers_after : AreNumbered (pasts_of after)
   numbers_after index p at =
       let cpu = cpu_at after index p at in
-      let tells = tells_at tables 1 before after lines is_numbered told text all index cpu.0 cpu.1 in
+      let tells = tells_at system 1 before after lines is_numbered told text all index cpu.0 cpu.1 in
       ap (λ (q : Past). q.number) cpu.2 ∙ tells.grew.more.number ∙ grew_number (own_past tells.cpu.past) tells.grew.made tells.grew.last tells.grew.grew
       ∙ number_before index tells.cpu tells.cpu_is
 
@@ -109,9 +108,9 @@ module _ (beginning : Run) (z : Past) (tables : KnownSystem) (before after : Lis
         (at_index (HasPast then) (pasts_of after) index (own_past cpu.past) begins (past_at after index cpu at))
 
     all_follow : (index : ℕ) (cpu : CpuInRun) (at : slice_get after index ≡ Some cpu)
-        → ChangesFollow (suc index) beginning (tells_at tables 1 before after lines is_numbered told text all index cpu at).steps then
+        → ChangesFollow (suc index) beginning (tells_at system 1 before after lines is_numbered told text all index cpu at).steps then
     all_follow index cpu at =
-        let steps = (tells_at tables 1 before after lines is_numbered told text all index cpu at).steps in
+        let steps = (tells_at system 1 before after lines is_numbered told text all index cpu at).steps in
         subst (λ (r : Run). ChangesFollow (suc index) beginning r then) (append-nil steps)
         (follow_both (suc index) beginning steps (own_past cpu.past).seen [] then (lines_follow index cpu at)
         (others_follow (suc index) (own_past cpu.past).seen then (others_after index cpu at)))
@@ -127,7 +126,7 @@ pub are_answers : (sizes : Config) (is_numbered is_audited : Bool) (t : KnownTab
     (start replayed at_go end at_end : SystemState) (early later text : List ℕ) (told : List Run) (ended : BootEnd) → IsNewBootState sizes t start
     → first_lines ≡ take (lines_before_go lines) lines → other_lines ≡ drop (lines_before_go lines) lines
     → ServesAll (numbered_terms t false is_numbered) first_lines start replayed early → SeesAllPasts t replayed at_go
-    → AreAllAnswers (boot_tables t sizes) (workers_from 1 at_go.cpus other_lines is_numbered) end.cpus told later
+    → AreAllAnswers (known_system t sizes) (workers_from 1 at_go.cpus other_lines is_numbered) end.cpus told later
     → IsQuietSystem t end → SeesAllPasts t end at_end → EndsHeld t at_end ended
     → text ≡ (early ++ later) ++ boot_end_text is_audited ended → AreThreadAnswers sizes is_numbered is_audited lines text
 are_answers sizes is_numbered is_audited t lines first_lines other_lines start replayed at_go end at_end early later text told ended new is_first is_other first
@@ -135,18 +134,18 @@ are_answers sizes is_numbered is_audited t lines first_lines other_lines start r
     let on = numbered_terms t false is_numbered in
     let front = take (lines_before_go lines) lines in
     let served = subst (λ (l : List Line). ServesAll on l start replayed early) is_first first in
-    let tells = subst (λ (l : List Line). AreAllAnswers (boot_tables t sizes) (workers_from 1 at_go.cpus l is_numbered) end.cpus told later) is_other all in
+    let tells = subst (λ (l : List Line). AreAllAnswers (known_system t sizes) (workers_from 1 at_go.cpus l is_numbered) end.cpus told later) is_other all in
     let run : Run = steps_of_served on front start replayed early served in
     let has : HasRun run replayed = all_lines_go_on on front start replayed early served [] new.so_far in
     let rest = drop (lines_before_go lines) lines in
     let z = own_past at_go.locked.machine.run.past in
-    let told_at = tells_at (boot_tables t sizes) 1 at_go.cpus end.cpus rest is_numbered told later tells in
+    let told_at = tells_at (known_system t sizes) 1 at_go.cpus end.cpus rest is_numbered told later tells in
     let goes = sees.goes_on run has in
-    let its_lines = all_follow sees.beginning z (boot_tables t sizes) at_go.cpus end.cpus rest is_numbered told later sees.seen.1 run goes tells sees_end.beginning
+    let its_lines = all_follow sees.beginning z (known_system t sizes) at_go.cpus end.cpus rest is_numbered told later sees.seen.1 run goes tells sees_end.beginning
     sees_end.begins.1 in
-    let its_past = others_after sees.beginning z (boot_tables t sizes) at_go.cpus end.cpus rest is_numbered told later sees.seen.1 run goes tells sees_end.beginning
+    let its_past = others_after sees.beginning z (known_system t sizes) at_go.cpus end.cpus rest is_numbered told later sees.seen.1 run goes tells sees_end.beginning
     sees_end.begins.1 in
-    let numbers = numbers_after sees.beginning z (boot_tables t sizes) at_go.cpus end.cpus rest is_numbered told later sees.seen.1 run goes tells in
+    let numbers = numbers_after sees.beginning z (known_system t sizes) at_go.cpus end.cpus rest is_numbered told later sees.seen.1 run goes tells in
     record {
       frames = t;
       start = start;

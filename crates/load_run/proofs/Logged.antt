@@ -3,9 +3,8 @@ use Rattle.std.proofs.Common.{◌≡◌, ℕ, ◌+◌, ◌<◌, true, List, [], 
 use Rattle.std.proofs.Common.{append-nil, append_assoc}
 use Rattle.std.proofs.lemmas.Result.{IfOk-weaker}
 use Rattle.std.specs.Prelude.{codes}
-use Rattle.frame_word.specs.Seats.{KnownTable}
 use Rattle.step_rules.specs.After.{Run}
-use Rattle.mem_machine.specs.Interleaving.{zone_of}
+use Rattle.boot_words.specs.{zone_of_boot, KnownTable}
 use Rattle.step_watch.specs.Watched.{IsNewLog, has_whole_log, log_text, steps_text}
 use Rattle.script_lines.specs.declared.line.Line.{Line}
 use Rattle.script_replay.specs.Lines.{HasRun, InOrder, RunGoesOn, SystemState}
@@ -102,7 +101,7 @@ logs_go_on on texts (line ∷ lines) s e log logs = λ earlier has.
 -- all steps of a log and of its end are those of a whole run
 pub logs_whole : (t : KnownTable) (texts : List (List ℕ)) (lines : List Line) (s : SystemState) (log : List ℕ) → HasRun [] s
     → (logs : LogsAllAndEnd t texts lines s log)
-    → IsWholeRun (zone_of t) (last_words logs.ends.ends.closes)
+    → IsWholeRun (zone_of_boot t) (last_words logs.ends.ends.closes)
     (steps_of_logs (terms t true) texts lines s logs.end logs.served_log logs.served ++ logs.ends.ends.leaves.steps)
 logs_whole t texts lines s log has logs =
     let run : Run = steps_of_logs (terms t true) texts lines s logs.end logs.served_log logs.served in

@@ -2,15 +2,14 @@
 use Rattle.std.proofs.Common.{◌≡◌, ℕ, ◌<◌, Some, List, [], ◌∷◌, ◌++◌, length, refl, sym, ap, subst, arith, append_assoc, append-nil}
 use Rattle.std.specs.Prelude.{slice_get, slice_set}
 use Rattle.std.proofs.lemmas.List.Sums.{sum_by-append}
-use Rattle.frame_word.specs.Seats.{KnownTable}
 use Rattle.frame_word.specs.declared.answers.Put.{Put}
 use Rattle.boot_words.specs.declared.past.Past.{Past}
-use Rattle.boot_words.specs.{Meets, own_past, GainsSteps, GrewByAll, IsRunSoFar}
+use Rattle.boot_words.specs.{Meets, own_past, GainsSteps, GrewByAll, IsRunSoFar, KnownTable}
 use Rattle.boot_words.proofs.Gaining.{gains_both, gains_go_on, none_gains}
 use Rattle.step_rules.specs.declared.step.Answer.{Answer}
 use Rattle.step_rules.specs.declared.step.Step.{Step}
 use Rattle.step_rules.specs.After.{Run}
-use Rattle.cpu_part.specs.{KnownCpu, UnpinAnswers, steps_of_put}
+use Rattle.cpu_part.specs.{KnownCpuLists, UnpinAnswers, steps_of_put}
 use Rattle.step_watch.specs.Watched.{Watches}
 use Rattle.step_watch.proofs.Watching.{watches_both, watches_none}
 use Rattle.mem_machine.specs.Machines.{KnownMachine, with_past}
@@ -50,7 +49,7 @@ put_met t l l1 l2 m c c1 c2 c3 f answer made in_run one same first unpins grew t
     let gains = met_gains t l l1 l2 c c1 c2 c3 (λ (k : ℕ). put_steps k f answer) in_run same first (put_made c1.part.number c1.past c2.past f answer grew) second in
     record {
       answer = answer;
-      cpu = subst (λ (p : KnownCpu × KnownCpu). UnpinAnswers f answer p.0 p.1) (λ i. (same i, sym still i)) unpins;
+      cpu = subst (λ (p : KnownCpuLists × KnownCpuLists). UnpinAnswers f answer p.0 p.1) (λ i. (same i, sym still i)) unpins;
       last = last;
       machine = ap (λ (x : KnownLocked). x.machine) saw.locked;
       watched = saw.watched;
@@ -98,7 +97,7 @@ none_pinned m (c ∷ cpus) n [] puts = absurd puts
 none_pinned m (c ∷ cpus) n (d ∷ left) puts =
     let none : length d.part.pins ≡ 0 = ap length puts.first.none_left in
     let rest = none_pinned puts.between cpus n left puts.rest in
-    let parts = sum_by-append (λ (x : KnownCpu). length x.pins) (d.part ∷ []) (parts_of left) in
+    let parts = sum_by-append (λ (x : KnownCpuLists). length x.pins) (d.part ∷ []) (parts_of left) in
     omega (arith, parts, none, rest)
 
 nothing_held : (l : List ℕ) → length l ≡ 0 → l ≡ []
@@ -109,7 +108,7 @@ nothing_held (x ∷ xs) h = absurd (omega (arith, h))
 pub none_put : (m : KnownMachine) (cpus : List CpuInRun) → pins_of_all (parts_of cpus) ≡ 0 → ForEachCpu PutsAllPins m cpus m cpus
 none_put m [] none = refl
 none_put m (c ∷ cpus) none =
-    let parts = sum_by-append (λ (x : KnownCpu). length x.pins) (c.part ∷ []) (parts_of cpus) in
+    let parts = sum_by-append (λ (x : KnownCpuLists). length x.pins) (c.part ∷ []) (parts_of cpus) in
     record {
       between = m;
       first = record { frames = []; puts = refl; none_left = nothing_held c.part.pins (omega (arith, parts, none)) };

@@ -4,12 +4,11 @@ use Rattle.std.proofs.lemmas.Result.{IfOk-weaker}
 use Rattle.std.proofs.KnownBytes.{Appends-nil}
 use Rattle.std.specs.declared.alloc.AllocError.{AllocError}
 use Rattle.std.specs.Io.KnownBytes.{Appends}
-use Rattle.frame_word.specs.Seats.{KnownTable}
 use Rattle.zone_blocks.specs.declared.config.Config.{Config}
 use Rattle.zone_blocks.specs.Config.{IsValidConfig}
+use Rattle.boot_words.specs.{zone_of_boot, KnownTable}
 use Rattle.mem_history.proofs.Along.{legal_front}
 use Rattle.step_rules.specs.After.{Run}
-use Rattle.mem_machine.specs.Interleaving.{zone_of}
 use Rattle.script_replay.specs.Lines.{HasRun, SystemState}
 use Rattle.line_server.specs.declared.form.SessionForm.{SessionForm}
 use Rattle.line_server.specs.declared.form.SessionForm.TheVariants.{Answers, Steps}
@@ -134,7 +133,7 @@ head_missed form sizes before is = subst (λ (f : SessionForm). BeginsHead f siz
 -- if a run led to the end of a session, it and the steps of the end are all steps of the boot
 end_whole : (form : SessionForm) (t : KnownTable) (is_audited : Bool) (run : Run) (end : SystemState) (text : List ℕ) → HasRun run end
     → (ends : EndsInForm form t is_audited end text)
-    → IsWholeRun (zone_of t) (words_of_end form t is_audited end text ends) (run ++ steps_of_end form t is_audited end text ends)
+    → IsWholeRun (zone_of_boot t) (words_of_end form t is_audited end text ends) (run ++ steps_of_end form t is_audited end text ends)
 end_whole (Answers is_explained) t is_audited run end text has ends = whole_run t run end ends.ended has ends.ends
 end_whole Steps t is_audited run end text has ends =
     let begun : HasRun run ends.begun = subst (HasRun run) (sym ends.renews.begun_is) has in whole_run t run ends.begun ends.ended begun ends.ends
@@ -160,7 +159,7 @@ module _ (options : Options) (form : SessionForm) (t : KnownTable) (server : Kno
       let run = steps_of_turns on options.sizes 1 session.turns start end answers in
       let end_is = subst (λ (s : SystemState). EndsInForm form t options.is_audited s ending) is ends in
       let all = end_whole form t options.is_audited run end ending (turns_go_on on options.sizes 1 session.turns start end answers [] new.so_far) end_is in
-      let legal = legal_front (zone_of t) run (steps_of_end form t options.is_audited end ending end_is) all.leads.legal in
+      let legal = legal_front (zone_of_boot t) run (steps_of_end form t options.is_audited end ending end_is) all.leads.legal in
       record {
         frames = t;
         start = start;

@@ -3,17 +3,16 @@
 use Rattle.std.proofs.Common.{◌≡◌, ℕ, ◌+◌, Some, List, [], ◌++◌, All, drop, length, sym, take, ◌∙◌, ap, subst, arith, zero, suc}
 use Rattle.std.specs.List.{slice_get}
 use Rattle.std.proofs.lemmas.Option.{slice_get_within}
-use Rattle.frame_word.specs.Seats.{KnownTable}
-use Rattle.cpu_part.specs.Cpus.{KnownCpu, first_cpu}
+use Rattle.cpu_part.specs.Cpus.{KnownCpuLists, first_cpu}
 use Rattle.zone_blocks.specs.declared.config.Config.{Config}
 use Rattle.step_rules.specs.State.{Zone}
 use Rattle.step_watch.specs.Watched.{IsNewWatch, KnownWatch}
 use Rattle.mem_core.specs.Shown as core
-use Rattle.mem_machine.specs.{zone_of, KnownMachine, IsFirst, with_watch, AgreesWithRun}
+use Rattle.mem_machine.specs.{KnownMachine, IsFirst, with_watch, AgreesWithRun}
 use Rattle.mem_history.specs.Whole.{ShowsAll}
 use Rattle.mem_history.proofs.Booting.{a_boot_is_shown}
 use Rattle.boot_words.specs.declared.past.Past.{Past}
-use Rattle.boot_words.specs.{own_past, IsRunSoFar}
+use Rattle.boot_words.specs.{own_past, IsRunSoFar, zone_of_boot, KnownTable}
 use Rattle.mem_system.specs.{IsSizedAs, first_cpus, CpuInRun, parts_of, pasts_of, KnownLocked}
 use Rattle.mem_history.proofs.Agreeing.{a_boot_agrees}
 use Rattle.mem_system.proofs.Closing.{written_back}
@@ -22,11 +21,11 @@ use Rattle.script_replay.specs.{SystemState, system_state, LineInRange}
 use Rattle.load_run.specs.Starting.{IsNewBootState}
 use Rattle.load_run.proofs.Answering.{first_long}
 
-first_at : (p n k : ℕ) (c : KnownCpu) → slice_get (first_cpus p n) k ≡ Some c → c ≡ first_cpu (p + k)
+first_at : (p n k : ℕ) (c : KnownCpuLists) → slice_get (first_cpus p n) k ≡ Some c → c ≡ first_cpu (p + k)
 first_at p zero k c at = absurd (let none = slice_get_within (first_cpus p 0) k c at in omega arith)
 first_at p (suc n) zero c at = same (first_cpu p) c at ∙ ap first_cpu (omega arith)
   where
-    same : (a b : KnownCpu) → Some a ≡ Some b → b ≡ a
+    same : (a b : KnownCpuLists) → Some a ≡ Some b → b ≡ a
     same a b e = cc
 first_at p (suc n) (suc k) c at = first_at (p + 1) n k c at ∙ ap first_cpu (omega arith)
 
@@ -40,9 +39,9 @@ new_state booted sizes t locked cpus same sized machine sizes_are are so_far =
     (record { sized = sized; machine = machine; sizes_are = sizes_are; cpus = are; so_far = so_far })
 
 module _ (sizes : Config) (t : KnownTable) (start : SystemState) (new : IsNewBootState sizes t start) where
-  each_first : (k : ℕ) (c : KnownCpu) → slice_get (parts_of start.cpus) k ≡ Some c → c ≡ first_cpu (suc k)
+  each_first : (k : ℕ) (c : KnownCpuLists) → slice_get (parts_of start.cpus) k ≡ Some c → c ≡ first_cpu (suc k)
   each_first k c at =
-      first_at 1 sizes.cpus k c (subst (λ (l : List KnownCpu). slice_get l k ≡ Some c) new.cpus at) ∙ ap first_cpu (omega arith)
+      first_at 1 sizes.cpus k c (subst (λ (l : List KnownCpuLists). slice_get l k ≡ Some c) new.cpus at) ∙ ap first_cpu (omega arith)
 
   pub boot_shown : ShowsAll t [] start.locked.machine (parts_of start.cpus)
   boot_shown = a_boot_is_shown t start.locked.machine (parts_of start.cpus) (record {
@@ -54,14 +53,14 @@ module _ (sizes : Config) (t : KnownTable) (start : SystemState) (new : IsNewBoo
   pub boot_agrees : AgreesWithRun t [] start.locked.machine.ledger
   boot_agrees = a_boot_agrees t start.locked.machine new.machine
 
--- what lines name is there, also as the tables and the CPUs' parts have it
+-- what lines name is there, also as the system and the CPUs' parts have it
 pub lines_there : (sizes : Config) (t : KnownTable) (parts : ℕ) (lines : List Line) → IsSizedAs sizes t → parts ≡ t.cpus
     → All (LineInRange sizes.frames sizes.cpus) lines → All (LineInRange t.frames parts) lines
 lines_there sizes t parts lines sized long all =
     subst (λ (b : ℕ × ℕ). All (LineInRange b.0 b.1) lines) (λ i. (sym sized.frames i, (sym sized.cpus ∙ sym long) i)) all
 
 -- the CPUs that were lent as a slice are those of the boot
-pub lent_parts : {parts : List KnownCpu} (lent given : List CpuInRun) → lent ≡ given → parts_of given ≡ parts → parts_of lent ≡ parts
+pub lent_parts : {parts : List KnownCpuLists} (lent given : List CpuInRun) → lent ≡ given → parts_of given ≡ parts → parts_of lent ≡ parts
 lent_parts lent given same are = ap parts_of same ∙ are
 
 pub lent_so_far : (past : Past) (lent given : List CpuInRun) → lent ≡ given → IsRunSoFar [] past (pasts_of given) → IsRunSoFar [] past (pasts_of lent)
@@ -84,9 +83,9 @@ watched_first t m watch first = record {
   past = first.past;
 }
 
--- a new watch of a boot's sizes is one of its tables
+-- a new watch of a boot's sizes is one of its system
 pub new_watch : (booted sizes : Config) (t : KnownTable) → IsSizedAs booted t → booted ≡ sizes → (watch : KnownWatch)
-    → IsNewWatch (core.zone_of_config sizes) watch → IsNewWatch (zone_of t) watch
+    → IsNewWatch (core.zone_of_config sizes) watch → IsNewWatch (zone_of_boot t) watch
 new_watch booted sizes t sized same watch new =
     let frames : sizes.frames ≡ t.frames = ap (λ (s : Config). s.frames) (sym same) ∙ sym sized.frames in
     let cpus : sizes.cpus ≡ t.cpus = ap (λ (s : Config). s.cpus) (sym same) ∙ sym sized.cpus in

@@ -1,11 +1,10 @@
 -- Why a replay that is checked gives no answers. Serves `check_on_boot`, `answers_on_boot`.
 use Rattle.std.proofs.Common.{◌≡◌, ◌∙◌, Bool, true, List, [], Result, Ok, Err, IfErr, ap, subst, sym}
-use Rattle.frame_word.specs.Seats.{KnownTable}
 use Rattle.zone_blocks.specs.declared.config.Config.{Config}
 use Rattle.step_watch.specs.Watched.{IsNewWatch, KnownWatch}
 use Rattle.mem_core.specs.Shown as core
-use Rattle.mem_machine.specs.{zone_of, IsFirst, with_watch}
-use Rattle.boot_words.specs.{own_past, IsRunSoFar}
+use Rattle.mem_machine.specs.{IsFirst, with_watch}
+use Rattle.boot_words.specs.{own_past, IsRunSoFar, zone_of_boot, KnownTable}
 use Rattle.mem_system.specs.{IsSizedAs, first_cpus, CpuInRun, parts_of, pasts_of, KnownLocked}
 use Rattle.script_lines.specs.declared.line.Line.{Line}
 use Rattle.script_replay.specs.declared.form.Form.{Form}
@@ -34,7 +33,7 @@ new_watched booted sizes t locked cpus watch after sized same first sizes_are ar
     cpus = are;
     so_far = subst (λ (l : KnownLocked). IsRunSoFar [] (own_past l.machine.run.past) (pasts_of cpus)) (sym is) so_far;
   };
-  watched = subst (λ (l : KnownLocked). IsNewWatch (zone_of t) l.machine.run.watch) (sym is) (new_watch booted sizes t sized same watch new);
+  watched = subst (λ (l : KnownLocked). IsNewWatch (zone_of_boot t) l.machine.run.watch) (sym is) (new_watch booted sizes t sized same watch new);
 }
 
 -- it stopped before the end of the lines

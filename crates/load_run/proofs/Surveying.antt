@@ -4,7 +4,6 @@ use Rattle.std.specs.Prelude.{slice_get}
 use Rattle.std.proofs.lemmas.Bool.{and_parts, cases_Bool, eqb-true, leb-true, true≢false}
 use Rattle.std.proofs.lemmas.List.{append_cancel_left, length-map}
 use Rattle.std.proofs.lemmas.Option.{get_or_from_slice_get, slice_get-get_or}
-use Rattle.frame_word.specs.Seats.{KnownTable}
 use Rattle.step_rules.specs.declared.phase.Hold.{Hold}
 use Rattle.step_rules.specs.{Zone, is_cpu, may_zone_act, Run, state_of, IsLegalRun}
 use Rattle.step_rules.proofs.Answering.{only_seats_act}
@@ -12,11 +11,11 @@ use Rattle.step_rules.proofs.PhaseLemmas.{none_some}
 use Rattle.step_rules.proofs.Runs.{legal_more}
 use Rattle.boot_words.specs.declared.past.Past.{Past}
 use Rattle.boot_words.specs.{AreChangesOf, HasInOrder, IsRunSoFar, SeesMore, changes_nothing, changes_of, IsZonePast, own_past, AllOf, IsPastOf}
-use Rattle.boot_words.specs.{HasNoStepOf}
+use Rattle.boot_words.specs.{HasNoStepOf, zone_of_boot, KnownTable}
 use Rattle.boot_words.proofs.Gaining.{sees_changes, sees_in_order, the_run_so_far_is_legal}
 use Rattle.boot_words.proofs.Holding.{allowed_at, append_none}
 use Rattle.boot_words.proofs.Ordered.{IsSeatOfChange, has_behind, only_quiet_are_left_out, others_add_none}
-use Rattle.mem_machine.specs.{KnownMachine, with_past, zone_of}
+use Rattle.mem_machine.specs.{KnownMachine, with_past}
 use Rattle.mem_system.specs.{CpuInRun, parts_of, pasts_of, ForEachCpu}
 use Rattle.script_replay.specs.Lines.{SystemState}
 use Rattle.script_replay.proofs.Growing.{none_both, sees_both}
@@ -229,7 +228,7 @@ sees_all t before mid after first second sizes still is_zone count =
       seen = seen;
       is_run = λ numbers. seen_run z.seen (own_past y.run.past) (pasts_of after.cpus) seen (later.number ∙ is_zone.zone_is) (stays_numbered t n mid.cpus y after.cpus second
           (stays_numbered t m before.cpus n mid.cpus first numbers));
-      changes = λ steps has. are_changes (zone_of t) steps z (pasts_of mid.cpus) is_zone.legal many pasts.1 (so_far steps has);
-      steps_legal = λ steps has. (the_run_so_far_is_legal (zone_of t) z.seen steps z (pasts_of mid.cpus) is_zone.legal is_zone.zone_is many (here, pasts.1) (so_far steps has)).0;
+      changes = λ steps has. are_changes (zone_of_boot t) steps z (pasts_of mid.cpus) is_zone.legal many pasts.1 (so_far steps has);
+      steps_legal = λ steps has. (the_run_so_far_is_legal (zone_of_boot t) z.seen steps z (pasts_of mid.cpus) is_zone.legal is_zone.zone_is many (here, pasts.1) (so_far steps has)).0;
       goes_on = λ steps has. round_goes_on t steps n mid.cpus y after.cpus second is_zone.zone_is (so_far steps has);
     }

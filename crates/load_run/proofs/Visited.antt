@@ -14,20 +14,18 @@ use Rattle.step_rules.specs.declared.step.Action.TheVariants.{Lock, Unlock, Open
 use Rattle.step_rules.specs.declared.step.Action.TheVariants.{Consume, Credit, Report, Absorb, Fill, DrainStock, Grant, Ungrant, PlaceBlock, Publish, Return}
 use Rattle.step_rules.specs.declared.step.Action.TheVariants.{Note, NoteGroupKill, SetMax, SetFlag, Make, Remove, Kill}
 use Rattle.step_rules.specs.{Zone, is_unheld, may_zone_act, visits, Allows, IsAnswer, IsMade, is_legal, IsLegalRun, Run, after, state_of, is_own}
-use Rattle.step_rules.specs.{own_steps, KeepsInvariant}
+use Rattle.step_rules.specs.{own_steps, KeepsInvariant, cpu_makes}
 use Rattle.step_rules.specs.State.{State}
 use Rattle.step_rules.proofs.LegalTests.{lock_tests, open_visit_tests, shut_visit_tests, freeze_tests, unfreeze_tests, pass_out_tests, take_in_tests, pass_back_tests, collect_tests}
 use Rattle.step_rules.proofs.LegalTests.{report_tests, absorb_tests, fill_tests, drain_stock_tests, grant_tests, ungrant_tests, place_block_tests, publish_tests, return_tests}
 use Rattle.step_rules.proofs.LegalTests.{set_max_tests, set_flag_tests, make_tests, remove_tests, kill_tests}
 use Rattle.step_rules.proofs.PhaseLemmas.{visited}
 use Rattle.step_rules.proofs.Runs.{after_illegal, allowed, sound_run, state_more}
-use Rattle.boot_words.specs.{GrewByAll, hide, own_past, HasNoStepOf, IsFast}
+use Rattle.boot_words.specs.{GrewByAll, hide, own_past, HasNoStepOf, IsFast, zone_of_boot, KnownTable}
 use Rattle.boot_words.specs.declared.past.Past.{Past}
 use Rattle.boot_words.proofs.Hiding.{fast_is_hidden}
 use Rattle.boot_words.proofs.Holding.{allowed_at, append_none}
-use Rattle.frame_word.specs.Seats.{KnownTable}
-use Rattle.mem_machine.specs.{zone_of, KnownMachine, IsShownBy}
-use Rattle.mem_machine.specs.Steps.{cpu_makes}
+use Rattle.mem_machine.specs.{KnownMachine, IsShownBy}
 use Rattle.mem_system.specs.{between_locks, IsSound, KnownLocked}
 use Rattle.mem_system.proofs.Beside.{legal_front}
 use Rattle.mem_system.proofs.Mixed.{AreBehindOthers, all_own, as_many, both, gained, has_none, just_these}
@@ -230,10 +228,10 @@ still_hidden zone seen rest legal none free again =
     ∙ ap (λ (h : Hold). record (hide s) { hold = h }) (sym (free_is s.hold free))
 
 -- what a visit of the run found, right before its Lock
-pub visit_in_run : (t : KnownTable) (m : KnownMachine) (cpu : ℕ) (steps seen run : Run) → IsLegalRun (zone_of t) run → IsStateOf t m (state_of (zone_of t) seen)
-    → (b : IsBehind cpu (record { seat = cpu; action = Lock }, Done) steps seen run) → IsStateOf t m (state_of (zone_of t) (seen ++ b.gap))
+pub visit_in_run : (t : KnownTable) (m : KnownMachine) (cpu : ℕ) (steps seen run : Run) → IsLegalRun (zone_of_boot t) run → IsStateOf t m (state_of (zone_of_boot t) seen)
+    → (b : IsBehind cpu (record { seat = cpu; action = Lock }, Done) steps seen run) → IsStateOf t m (state_of (zone_of_boot t) (seen ++ b.gap))
 visit_in_run t m cpu steps seen run legal found b =
-    let zone = zone_of t in
+    let zone = zone_of_boot t in
     let lock : Step × Answer = (record { seat = cpu; action = Lock }, Done) in
     let front = seen ++ b.gap in
     let whole : IsLegalRun zone (front ++ lock ∷ b.rest) =
@@ -255,12 +253,12 @@ own_between cpu steps all =
     ∙ ap (λ (t : Bool). steps ++ cond t unlock []) mine)
 
 -- what is behind the lock is what the zone's past left
-found_behind : (t : KnownTable) (found : KnownLocked) → IsSound t found → IsStateOf t found.machine (state_of (zone_of t) (own_past found.machine.run.past).seen)
+found_behind : (t : KnownTable) (found : KnownLocked) → IsSound t found → IsStateOf t found.machine (state_of (zone_of_boot t) (own_past found.machine.run.past).seen)
 found_behind t found sound = record { free = sound.quiet.rests.free; shown = sound.consistent.shown }
 
 pub runs_show_visits : RunsShowVisits
 runs_show_visits table cmd reply before after run sound served left begins =
-    let zone = zone_of table in
+    let zone = zone_of_boot table in
     let cpu = before.cpu.part.number in
     let visit = served.run in
     let rests = sound.quiet.rests in

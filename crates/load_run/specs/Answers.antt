@@ -1,16 +1,15 @@
 -- What a script is answered.
 use Rattle.std.specs.Prelude.{◌≡◌, ℕ, suc, ◌+◌, Bool, false, true, ⊤, Option, Some, List, [], ◌++◌, codes, decimal, drop, length, slice_get, take}
 use Rattle.std.specs.Io.KnownBytes.{Appends}
-use Rattle.frame_word.specs.Seats.{KnownTable}
 use Rattle.zone_blocks.specs.declared.config.Config.{Config}
 use Rattle.zone_blocks.specs.Config.{IsValidConfig}
 use Rattle.step_rules.specs.After.{Run as StepRun}
-use Rattle.boot_words.specs.{AreChangesOf, own_past, OthersFollow}
-use Rattle.mem_machine.specs.{zone_of, AgreesWithRun}
+use Rattle.boot_words.specs.{AreChangesOf, own_past, OthersFollow, zone_of_boot, KnownTable}
+use Rattle.mem_machine.specs.{AgreesWithRun}
 use Rattle.mem_system.specs.{CpuInRun, IsQuiet}
 use Rattle.script_lines.specs.declared.line.Line.{Line}
 use Rattle.script_lines.specs.Script.{IsScript, longest_script}
-use Rattle.script_replay.specs.{ServesAll, SystemState, KeepsHistory, past, boot_tables, form_of, form_terms, numbered_terms, AreAllAnswers}
+use Rattle.script_replay.specs.{ServesAll, SystemState, KeepsHistory, lines_so_far, known_system, form_of, form_terms, numbered_terms, AreAllAnswers}
 use Rattle.script_replay.specs.{workers_from, lines_before_go}
 use Rattle.script_replay.specs.declared.form.Form.{Form}
 use Rattle.load_options.specs.declared.task.Options.{Options}
@@ -41,12 +40,12 @@ pub record AreReplayAnswers (sizes : Config) (form : Form) (is_audited : Bool) (
   pub ending : List ℕ
   pub first : IsNewBootState sizes frames start
   pub served : ServesAll (form_terms frames form) lines start end answers
-  pub history : KeepsHistory (form_terms frames form) lines (past [] start) (past run end) answers
+  pub history : KeepsHistory (form_terms frames form) lines (lines_so_far [] start) (lines_so_far run end) answers
   pub agrees : AgreesWithRun frames [] start.locked.machine.ledger
   pub ends : WritesEnd frames is_audited end ending
   pub whole : StepRun
   pub whole_is : whole ≡ run ++ ends.ends.leaves.steps
-  pub is_whole : IsWholeRun (zone_of frames) (last_words ends.ends.closes) whole
+  pub is_whole : IsWholeRun (zone_of_boot frames) (last_words ends.ends.closes) whole
   pub text_is : text ≡ answers ++ ending
 
 -- the line that says how many steps were checked
@@ -91,17 +90,17 @@ pub record AreThreadAnswers (sizes : Config) (is_numbered is_audited : Bool) (li
   pub served : ServesAll (numbered_terms frames false is_numbered) (take (lines_before_go lines) lines) start
       replayed early
   pub history : KeepsHistory (numbered_terms frames false is_numbered) (take (lines_before_go lines) lines)
-      (past [] start) (past run replayed) early
+      (lines_so_far [] start) (lines_so_far run replayed) early
   pub agrees : AgreesWithRun frames [] start.locked.machine.ledger
   pub sees : SeesAllPasts frames replayed at_go
-  pub tells : AreAllAnswers (boot_tables frames sizes)
+  pub tells : AreAllAnswers (known_system frames sizes)
       (workers_from 1 at_go.cpus (drop (lines_before_go lines) lines) is_numbered) end.cpus told later
   pub quiet : IsQuietSystem frames end
   pub sees_end : SeesAllPasts frames end at_end
   pub ends : WritesEnd frames is_audited at_end ending
   pub whole : StepRun
   pub whole_is : whole ≡ sees_end.beginning ++ ends.ends.leaves.steps
-  pub is_whole : IsWholeRun (zone_of frames) (last_words ends.ends.closes) whole
+  pub is_whole : IsWholeRun (zone_of_boot frames) (last_words ends.ends.closes) whole
   pub changes : AreChangesOf sees.beginning run
   pub each : (index : ℕ) (cpu : CpuInRun) (steps : StepRun) → slice_get end.cpus index ≡ Some cpu
       → slice_get told index ≡ Some steps

@@ -2,14 +2,13 @@
 use Rattle.std.specs.Prelude.{◌≡◌, ℕ, Bool, true, false, List, [], ◌∷◌, ◌++◌, codes, ◌==◌, if◌then◌else◌}
 use Rattle.std.specs.Fmt.{decimal}
 use Rattle.frame_word.specs.declared.answers.Put.{Put}
-use Rattle.frame_word.specs.Seats.{KnownTable}
-use Rattle.boot_words.specs.{own_past, words_in, zone_of_boot, IsRunOf, GainsSteps, IsRunSoFar}
+use Rattle.boot_words.specs.{own_past, words_in, zone_of_boot, IsRunOf, GainsSteps, IsRunSoFar, KnownTable}
 use Rattle.boot_words.specs.Words.{Words}
 use Rattle.cpu_part.specs.Calls.{UnpinAnswers}
 use Rattle.step_rules.specs.declared.step.Action.TheVariants as step
-use Rattle.step_rules.specs.{Run, Zone}
+use Rattle.step_rules.specs.{Run, Zone, cpu_makes}
 use Rattle.mem_core.specs.Promise.{AlwaysKeepsPromise}
-use Rattle.step_watch.specs.Watched.{Watches, cpu_makes, has_legal_steps, steps_seen}
+use Rattle.step_watch.specs.Watched.{Watches, has_legal_steps, steps_seen}
 use Rattle.mem_machine.specs.Machines.{KnownMachine, with_run}
 use Rattle.mem_history.specs.Leading.{put_answer}
 use Rattle.mem_system.specs.declared.audit.Audit.{Audit}

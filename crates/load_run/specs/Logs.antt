@@ -1,10 +1,9 @@
 -- What the steps of a script are as a log: the sizes; then of each line its part of the log; then that of the end.
 use Rattle.std.specs.Prelude.{◌≡◌, ℕ, ◌-◌, ◌==◌, if◌then◌else◌, true, List, [], ◌∷◌, ◌++◌, codes, decimal, get_or}
-use Rattle.frame_word.specs.Seats.{KnownTable}
 use Rattle.zone_blocks.specs.declared.config.Config.{Config}
 use Rattle.step_rules.specs.After.{Run}
+use Rattle.boot_words.specs.{zone_of_boot, KnownTable}
 use Rattle.step_watch.specs.Watched.{steps_text}
-use Rattle.mem_machine.specs.Interleaving.{zone_of}
 use Rattle.log_lines.specs.Line.{zone_text}
 use Rattle.script_lines.specs.declared.line.Line.{Line}
 use Rattle.script_lines.specs.declared.line.Line.TheVariants.{Go, At}
@@ -90,5 +89,5 @@ pub record AreLoggedSteps (sizes : Config) (script : List ℕ) (lines : List Lin
   pub whole : Run
   pub whole_is : whole ≡ steps_of_logs (terms frames true) (texts_of script) lines start logs.end logs.served_log
       logs.served ++ logs.ends.ends.leaves.steps
-  pub is_whole : IsWholeRun (zone_of frames) (last_words logs.ends.ends.closes) whole
+  pub is_whole : IsWholeRun (zone_of_boot frames) (last_words logs.ends.ends.closes) whole
   pub text_is : text ≡ log_head_text sizes ++ log

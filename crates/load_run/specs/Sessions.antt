@@ -1,12 +1,12 @@
 -- What a session promises, by the status that it ends with.
 use Rattle.std.specs.Prelude.{◌≡◌, ◌⊎◌, ℕ, ◌≤◌, Bool, List, [], ◌++◌, Option, Some, ⊤}
 use Rattle.std.specs.Io.KnownBytes.{Appends}
-use Rattle.frame_word.specs.Seats.{KnownTable}
 use Rattle.zone_blocks.specs.declared.config.Config.{Config}
 use Rattle.zone_blocks.specs.Config.{IsValidConfig}
 use Rattle.boot_words.specs.Words.{Words}
 use Rattle.step_rules.specs.After.{Run}
-use Rattle.mem_machine.specs.{zone_of, AgreesWithRun}
+use Rattle.boot_words.specs.{zone_of_boot, KnownTable}
+use Rattle.mem_machine.specs.{AgreesWithRun}
 use Rattle.script_replay.specs.Lines.{SystemState}
 use Rattle.line_server.specs.declared.fault.ServeFault.{ServeFault}
 use Rattle.line_server.specs.declared.fault.ServeFault.TheVariants as serve
@@ -61,7 +61,7 @@ pub record EndsSession (options : Options) (form : SessionForm) (input before mi
   pub whole_is : whole
       ≡ steps_of_turns (session_terms frames form) options.sizes 1 session.turns start end session.holds.answers
       ++ steps_of_end form frames options.is_audited end ending ends
-  pub is_whole : IsWholeRun (zone_of frames) (words_of_end form frames options.is_audited end ending ends) whole
+  pub is_whole : IsWholeRun (zone_of_boot frames) (words_of_end form frames options.is_audited end ending ends) whole
 
 -- a session ended, and all of the text of its end was written after its answers
 pub record ServesInput (options : Options) (form : SessionForm) (input before after : Option (List ℕ)) : Type 0 where

@@ -1,7 +1,7 @@
 -- The state after a boot.
 use Rattle.std.specs.Prelude.{◌≡◌, []}
-use Rattle.frame_word.specs.Seats.{KnownTable}
 use Rattle.zone_blocks.specs.declared.config.Config.{Config}
+use Rattle.boot_words.specs.Tables.{KnownTable}
 use Rattle.mem_machine.specs.Machines.{IsFirst}
 use Rattle.mem_system.specs.{IsSizedAs, first_cpus, parts_of}
 use Rattle.script_replay.specs.Lines.{HasRun, SystemState}

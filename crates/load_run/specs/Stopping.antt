@@ -1,9 +1,8 @@
 -- Why a boot whose steps are checked gives no answers.
 use Rattle.std.specs.Prelude.{◌≡◌, ℕ, Bool, true, false, List, ⊤}
-use Rattle.frame_word.specs.Seats.{KnownTable}
 use Rattle.zone_blocks.specs.declared.config.Config.{Config}
+use Rattle.boot_words.specs.{zone_of_boot, KnownTable}
 use Rattle.step_watch.specs.Watched.{IsNewWatch, has_legal_steps}
-use Rattle.mem_machine.specs.Interleaving.{zone_of}
 use Rattle.script_lines.specs.declared.line.Line.{Line}
 use Rattle.script_replay.specs.declared.form.Form.{Form}
 use Rattle.script_replay.specs.declared.replays.Stopped.{Stopped}
@@ -21,7 +20,7 @@ use Rattle.load_run.specs.Starting.{IsNewBootState}
 pub record IsNewWatchedState (sizes : Config) (table : KnownTable)
     (start : SystemState) : Type 0 where
   pub first : IsNewBootState sizes table start
-  pub watched : IsNewWatch (zone_of table) start.locked.machine.run.watch
+  pub watched : IsNewWatch (zone_of_boot table) start.locked.machine.run.watch
 
 -- A boot with these sizes served the lines up to one with a step that the watch didn't allow, and no line after it.
 -- That line has this number.

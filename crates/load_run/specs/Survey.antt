@@ -1,11 +1,10 @@
 -- What a look at all pasts together shows, and what a seat changes in a run.
 use Rattle.std.specs.Prelude.{◌≡◌, ℕ, suc, ◌==◌, ◌&&◌, not, Some, List, ◌∷◌, ◌++◌, filter, map, slice_get}
-use Rattle.frame_word.specs.Seats.{KnownTable}
 use Rattle.step_rules.specs.After.{Run, IsLegalRun}
 use Rattle.boot_words.specs.declared.past.Past.{Past}
-use Rattle.boot_words.specs.{AreChangesOf, changes_nothing, Meets, own_past, AllOf, OthersFollow}
-use Rattle.stock_word.specs.declared.view.Stock.{Stock}
-use Rattle.mem_machine.specs.{zone_of, with_past}
+use Rattle.boot_words.specs.{AreChangesOf, changes_nothing, Meets, own_past, AllOf, OthersFollow, zone_of_boot, KnownTable}
+use Rattle.stock_word.specs.declared.stock.Stock.{Stock}
+use Rattle.mem_machine.specs.{with_past}
 use Rattle.mem_system.specs.{CpuInRun, parts_of, pasts_of, MachineAndCpu}
 use Rattle.script_replay.specs.Lines.{HasRun, SystemState}
 
@@ -53,10 +52,10 @@ pub record SeesAllPasts (table : KnownTable) (before after : SystemState) : Type
   pub parts : parts_of after.cpus ≡ parts_of before.cpus
   pub lasts : lasts_of after.cpus ≡ lasts_of before.cpus
   pub beginning : Run
-  pub legal : IsLegalRun (zone_of table) beginning
+  pub legal : IsLegalRun (zone_of_boot table) beginning
   pub begins : AllOf (HasPast beginning) (own_past before.locked.machine.run.past ∷ pasts_of before.cpus)
   pub seen : AllOf (HasSeen beginning) (own_past after.locked.machine.run.past ∷ pasts_of after.cpus)
   pub is_run : AreNumbered (pasts_of before.cpus) → HasRun beginning after
   pub changes : (steps : Run) → HasRun steps before → AreChangesOf beginning steps
-  pub steps_legal : (steps : Run) → HasRun steps before → IsLegalRun (zone_of table) steps
+  pub steps_legal : (steps : Run) → HasRun steps before → IsLegalRun (zone_of_boot table) steps
   pub goes_on : (steps : Run) → HasRun steps before → HasRun steps after

@@ -1,10 +1,9 @@
 -- The steps of all threads as one legal run, and what it shows of each visit and of what was found.
 use Rattle.std.specs.Prelude.{◌≡◌, ℕ, ◌++◌, true}
-use Rattle.frame_word.specs.Seats.{KnownTable}
 use Rattle.step_rules.specs.{Run, state_of, is_unheld, own_steps}
 use Rattle.step_rules.specs.State.{State}
-use Rattle.boot_words.specs.{hide, KnownPasts, own_past}
-use Rattle.mem_machine.specs.{zone_of, KnownMachine, IsShownBy}
+use Rattle.boot_words.specs.{hide, KnownPasts, own_past, zone_of_boot, KnownTable}
+use Rattle.mem_machine.specs.{KnownMachine, IsShownBy}
 use Rattle.mem_system.specs.declared.command.LockedCommand.{LockedCommand}
 use Rattle.mem_system.specs.declared.command.ReplyWithText.{ReplyWithText}
 use Rattle.mem_system.specs.{CpuInRun, between_locks, IsSound, KnownLocked, IsServed, LockedState}
@@ -28,9 +27,9 @@ pub record ShowsVisit (table : KnownTable) (run : Run) (cpu : ℕ) (steps : Run)
   pub during : Run
   pub after : Run
   pub is : run ≡ before ++ (during ++ after)
-  pub found_is : IsStateOf table found (state_of (zone_of table) before)
+  pub found_is : IsStateOf table found (state_of (zone_of_boot table) before)
   pub own : own_steps cpu during ≡ between_locks cpu steps
-  pub left_is : IsStateOf table left (state_of (zone_of table) (before ++ during))
+  pub left_is : IsStateOf table left (state_of (zone_of_boot table) (before ++ during))
 
 -- If a command was served in a visit, and the CPU's past after it is a beginning of a run, then this run shows the visit.
 abbrev pub RunsShowVisits : Type 0
@@ -45,7 +44,7 @@ pub record ShowsFound (table : KnownTable) (run : Run) (found : KnownMachine) : 
   pub before : Run
   pub after : Run
   pub is : run ≡ before ++ after
-  pub found_is : IsStateOf table found (state_of (zone_of table) before)
+  pub found_is : IsStateOf table found (state_of (zone_of_boot table) before)
 
 -- If a CPU has seen the run that led to what was found behind the lock, which is sound (`SeenBehindLock`), and the CPU's
 -- past then is a beginning of a run, then this run shows what was found, such as its groups.

@@ -78,8 +78,8 @@ pub(crate) fn empty_cpus<N: BootName>(
     tables: Tables<N>,
     cpus: Vec<Cpu<N>>,
 ) -> (u64, EmptiedBoot<N>)
-    requires count { length cpus.items ≡ N.frames.cpus }
-    ensures leaves { LeavesNothing N.frames (system_state locked cpus.items) result.0 result.1 }
+    requires count { length cpus.items ≡ N.table.cpus }
+    ensures leaves { LeavesNothing N.table (system_state locked cpus.items) result.0 result.1 }
 {
     match make_last_visits(locked, tables, cpus) {
         Ok(emptied) => (0, emptied),
@@ -101,8 +101,8 @@ pub(crate) fn empty_cpus<N: BootName>(
 
 /// Ends a boot. Pins that are still held are put first.
 pub fn end_boot<N: BootName>(locked: Locked<N>, tables: Tables<N>, cpus: Vec<Cpu<N>>) -> BootEnd
-    requires count { length cpus.items ≡ N.frames.cpus }
-    ensures ends { EndsHeld N.frames (system_state locked cpus.items) result }
+    requires count { length cpus.items ≡ N.table.cpus }
+    ensures ends { EndsHeld N.table (system_state locked cpus.items) result }
 {
     let (held, emptied) = empty_cpus(locked, tables, cpus);
     let audit = emptied.close();
@@ -115,8 +115,8 @@ pub fn end_checked_boot<N: BootName>(
     tables: Tables<N>,
     cpus: Vec<Cpu<N>>,
 ) -> (BootEnd, CheckedSteps)
-    requires count { length cpus.items ≡ N.frames.cpus }
-    ensures ends { EndsChecked N.frames (system_state locked cpus.items) result.0 result.1 }
+    requires count { length cpus.items ≡ N.table.cpus }
+    ensures ends { EndsChecked N.table (system_state locked cpus.items) result.0 result.1 }
 {
     let (held, emptied) = empty_cpus(locked, tables, cpus);
     let seen = CheckedSteps {

@@ -29,7 +29,7 @@ pub fn check_on_boot<N: BootName>(
     form: Form,
     is_audited: bool,
 ) -> Result<Vec<u8>, ProgramFault>
-    requires frames { boot.frames ≡ N.frames }
+    requires frames { boot.table ≡ N.table }
     requires sizes { boot.sizes ≡ sizes }
     requires valid { IsValidConfig sizes }
     requires lines { All (LineInRange boot.sizes.frames boot.sizes.cpus) lines.now }

@@ -66,8 +66,8 @@ fn log_each<N: BootName>(
     texts: &[&[u8]],
     log: &mut Vec<u8>,
 ) -> Result<(), AllocError>
-    requires there { All (LineInRange N.frames.frames (length cpus.old)) lines.now }
-    ensures logged { OnOk result (GrowsBy (LogsAll (terms N.frames true) (map (λ text. text.now) texts.now)
+    requires there { All (LineInRange N.table.frames (length cpus.old)) lines.now }
+    ensures logged { OnOk result (GrowsBy (LogsAll (terms N.table true) (map (λ text. text.now) texts.now)
         lines.now (system_state locked.old cpus.old) (system_state locked.new cpus.new)) log.old.items log.new.items) }
 {
     for next in lines {
@@ -102,9 +102,9 @@ pub(crate) fn log_end<N: BootName>(
     cpus: Vec<Cpu<N>>,
     log: &mut Vec<u8>,
 ) -> Result<(), AllocError>
-    requires count { length cpus.items ≡ N.frames.cpus }
+    requires count { length cpus.items ≡ N.table.cpus }
     ensures logged { AddsPart result log.old.items log.new.items
-        (LogsEnd N.frames (system_state locked cpus.items)) }
+        (LogsEnd N.table (system_state locked cpus.items)) }
 {
     locked.set_watch(Watch::logging(alloc));
     let (held, emptied) = empty_cpus(locked, tables, cpus);
@@ -149,7 +149,7 @@ pub fn steps_on_boot<N: BootName>(
     script: &[u8],
     lines: &[Line<'_>],
 ) -> Result<Vec<u8>, AllocError>
-    requires frames { boot.frames ≡ N.frames }
+    requires frames { boot.table ≡ N.table }
     requires sizes { boot.sizes ≡ sizes }
     requires lines { All (LineInRange boot.sizes.frames boot.sizes.cpus) lines.now }
     ensures steps { IfOk result (λ text. AreLoggedSteps boot.sizes script.now lines.now text.items) }

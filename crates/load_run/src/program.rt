@@ -200,7 +200,7 @@ fn answers_on_boot<N: BootName + Send + Sync, R: Threads + Wait + Sync>(
     lines: &[Line<'_>],
 ) -> Result<Vec<u8>, ProgramFault>
     requires task { IsOnScript options.now.task }
-    requires frames { boot.frames ≡ N.frames }
+    requires frames { boot.table ≡ N.table }
     requires sizes { boot.sizes ≡ options.now.sizes }
     requires valid { IsValidConfig options.now.sizes }
     requires lines { All (LineInRange boot.sizes.frames boot.sizes.cpus) lines.now }

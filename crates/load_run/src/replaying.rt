@@ -22,7 +22,7 @@ pub fn replay_on_boot<N: BootName>(
     form: Form,
     is_audited: bool,
 ) -> Result<Vec<u8>, AllocError>
-    requires frames { boot.frames ≡ N.frames }
+    requires frames { boot.table ≡ N.table }
     requires lines { All (LineInRange boot.sizes.frames boot.sizes.cpus) lines.now }
     ensures answers { IfOk result (λ text. AreReplayAnswers boot.sizes form is_audited lines.now text.items) }
 {

@@ -98,7 +98,7 @@ fn serve_on_boot<N: BootName, I: Read, O: Write>(
     input: &mut I,
     output: &mut O,
 ) -> Result<(), ProgramFault>
-    requires frames { boot.frames ≡ N.frames }
+    requires frames { boot.table ≡ N.table }
     requires sizes { boot.sizes ≡ options.now.sizes }
     requires valid { IsValidConfig options.now.sizes }
     requires in_range { HasSizesInRange options.now.sizes }
@@ -128,9 +128,9 @@ fn end_session<N: BootName>(
     cpus: Vec<Cpu<N>>,
     is_audited: bool,
 ) -> Result<Vec<u8>, AllocError>
-    requires count { length cpus.items ≡ N.frames.cpus }
+    requires count { length cpus.items ≡ N.table.cpus }
     ensures ended { GivesAnswer result
-        (EndsInForm form N.frames is_audited (system_state locked cpus.items)) }
+        (EndsInForm form N.table is_audited (system_state locked cpus.items)) }
 {
     match form {
         SessionForm::Answers { .. } => {

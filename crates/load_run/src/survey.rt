@@ -12,8 +12,8 @@ use mem_system::{Cpu, Locked};
 
 /// Looks at the pasts of all CPUs and of the zone together. A caller does this while no other thread makes a step.
 pub(crate) fn survey<N: BootName>(locked: &mut Locked<N>, tables: &Tables<N>, cpus: &mut [Cpu<N>])
-    requires count { length cpus.old ≡ N.frames.cpus }
-    ensures sees { SeesAllPasts N.frames (system_state locked.old cpus.old) (system_state locked.new cpus.new) }
+    requires count { length cpus.old ≡ N.table.cpus }
+    ensures sees { SeesAllPasts N.table (system_state locked.old cpus.old) (system_state locked.new cpus.new) }
 {
     meet_each(locked, tables, cpus);
     locked.prove_quiet(); // The zone's past is a legal run.
@@ -22,7 +22,7 @@ pub(crate) fn survey<N: BootName>(locked: &mut Locked<N>, tables: &Tables<N>, cp
 
 // Each CPU meets the zone.
 fn meet_each<N: BootName>(locked: &mut Locked<N>, tables: &Tables<N>, cpus: &mut [Cpu<N>])
-    ensures meets { ForEachCpu (MeetsZone N.frames) locked.old.machine cpus.old locked.new.machine cpus.new }
+    ensures meets { ForEachCpu (MeetsZone N.table) locked.old.machine cpus.old locked.new.machine cpus.new }
     ensures sizes { locked.new.sizes ≡ locked.old.sizes }
 {
     for cpu in cpus.iter_mut() {

@@ -3,7 +3,7 @@
 
 ghost use Rattle.std.specs.Prelude.{◌≡◌, ◌<◌, ◌^◌, All, IfOk, List, length};
 ghost use Rattle.step_rules.specs.After.{Run};
-ghost use Rattle.script_replay.specs.{LineInRange, boot_tables, AreAllAnswers, workers_from};
+ghost use Rattle.script_replay.specs.{LineInRange, known_system, AreAllAnswers, workers_from};
 ghost use Rattle.load_run.specs.Answers.{AreThreadAnswers};
 
 use crate::boot_end::end_boot;
@@ -29,7 +29,7 @@ pub fn run_by_threads<N: BootName + Send + Sync, R: Threads + Wait + Sync>(
     is_numbered: bool,
     is_audited: bool,
 ) -> Result<Vec<u8>, AllocError>
-    requires frames { boot.frames ≡ N.frames }
+    requires frames { boot.table ≡ N.table }
     requires lines { All (LineInRange boot.sizes.frames boot.sizes.cpus) lines.now }
     ensures answers { IfOk result (λ text. AreThreadAnswers boot.sizes is_numbered is_audited lines.now text.items) }
 {
@@ -74,9 +74,9 @@ fn serve_later<N: BootName + Send + Sync, R: Threads + Wait + Sync>(
     has_memory: bool,
 ) -> Result<Vec<u8>, AllocError>
     requires count { length cpus.old < 2 ^ 31 }
-    requires lines { All (LineInRange N.frames.frames (length cpus.old)) lines.now }
+    requires lines { All (LineInRange N.table.frames (length cpus.old)) lines.now }
     ensures told { IfOk result (λ text. (told : List Run)
-        × AreAllAnswers (boot_tables N.frames system.now.sizes) (workers_from 1 cpus.old lines.now is_numbered) cpus.new told text.items) }
+        × AreAllAnswers (known_system N.table system.now.sizes) (workers_from 1 cpus.old lines.now is_numbered) cpus.new told text.items) }
 {
     if has_memory {
         run_each(rt, alloc, system, cpus, lines, is_numbered, &NoGate)

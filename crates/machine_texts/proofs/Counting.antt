@@ -4,9 +4,9 @@ use Rattle.std.specs.Prelude.{sum_by}
 use Rattle.std.specs.Option.{option_map_or}
 use Rattle.std.proofs.lemmas.List.Sums.{sum_by-cons, sum_by_more}
 use Rattle.std.proofs.Math.Pow.{pow_mono}
-use Rattle.frame_word.specs.Seats.{KnownTable}
 use Rattle.group_tree.specs.declared.group.Group.{Group}
 use Rattle.lru_lists.specs.declared.record.Entry.{Entry}
+use Rattle.boot_words.specs.Tables.{KnownTable}
 use Rattle.mem_machine.specs.declared.frame_state.FrameState.{FrameState}
 use Rattle.mem_machine.specs.declared.frame_state.FrameState.TheVariants.{Free, Lent, Head, Tail}
 use Rattle.mem_machine.specs.{KnownMachine, IsConsistent, frame_state_at, headed_unit}
@@ -26,16 +26,16 @@ module _ (t : KnownTable) (m : KnownMachine) (ok : IsConsistent t m) (f : ℕ) w
   pub few_pages : pages_at m f ≤ 1024
   few_pages = few_of (frame_state_at m.frame_states f) refl
 
-few_if : (b : Bool) (n : ℕ) → n ≤ 1024 → cond b n 0 ≤ 1024
-few_if true n few = few
-few_if false n few = omega arith
+pub few_if : (b : Bool) (n k : ℕ) → n ≤ k → cond b n 0 ≤ k
+few_if true n k few = few
+few_if false n k few = omega arith
 
 -- and so a list has at most 1,024 for each of its units
 pub few_on : (t : KnownTable) (m : KnownMachine) → IsConsistent t m → (only_dirty : Bool) (es : List Entry)
     → sum_by (counted_pages m only_dirty) es ≤ length es * 1024
 few_on t m ok only_dirty [] = let none : sum_by (counted_pages m only_dirty) [] ≡ 0 = refl in omega (arith, none)
 few_on t m ok only_dirty (e ∷ es) =
-    let one = few_if (is_counted only_dirty e) (pages_at m e.number) (few_pages t m ok e.number) in
+    let one = few_if (is_counted only_dirty e) (pages_at m e.number) 1024 (few_pages t m ok e.number) in
     let more = few_on t m ok only_dirty es in
     let both = sum_by-cons (counted_pages m only_dirty) e es in
     omega (arith, one, more, both)

@@ -5,3 +5,4 @@ pub mod UnitLines
 pub mod Owners
 mod Adding
 mod Counting
+mod KeptPages

@@ -1,12 +1,11 @@
 -- What memory.stat counts: the pages of kept units (cgroup-v2.rst, memory.stat).
-use Rattle.std.specs.Prelude.{ℕ, ◌+◌, ◌*◌, ◌^◌, ◌||◌, not, Bool, true, false, if◌then◌else◌, sum_by}
+use Rattle.std.specs.Prelude.{ℕ, ◌+◌, ◌^◌, ◌||◌, not, Bool, true, false, if◌then◌else◌, sum_by}
 use Rattle.std.specs.Option.{option_map_or}
 use Rattle.group_tree.specs.declared.group.Group.{Group}
 use Rattle.group_tree.specs.Groups.{in_subtree}
 use Rattle.lru_lists.specs.declared.record.Entry.{Entry}
 use Rattle.lru_lists.specs.declared.record.LruList.{LruList}
 use Rattle.lru_lists.specs.declared.record.LruList.TheVariants.{Inactive, Active}
-use Rattle.control_files.specs.Limit.{page_bytes}
 use Rattle.control_files.specs.declared.stat.MemoryStat.{MemoryStat}
 use Rattle.mem_machine.specs.{frame_state_at, headed_unit, KnownMachine, entries_in}
 
@@ -38,12 +37,11 @@ abbrev pub pages_below : KnownMachine → LruList → (only_dirty : Bool) → (g
 pages_below machine list only_dirty group =
     sum_by (λ (row : Group). pages_shared machine list only_dirty group row.number) machine.ledger.groups
 
--- What memory.stat shows of the group, in bytes: all kept units of the group and of those below it, the dirty ones, the
--- inactive ones and the active ones
+-- What memory.stat shows of the group, in pages: the inactive kept units of the group and of those below it, the active
+-- ones, and the dirty ones of both
 abbrev pub memory_stat : KnownMachine → (group : ℕ) → MemoryStat
 memory_stat machine group = record {
-  file = (pages_below machine Inactive false group + pages_below machine Active false group) * page_bytes;
-  file_dirty = (pages_below machine Inactive true group + pages_below machine Active true group) * page_bytes;
-  inactive_file = pages_below machine Inactive false group * page_bytes;
-  active_file = pages_below machine Active false group * page_bytes;
+  inactive = pages_below machine Inactive false group;
+  active = pages_below machine Active false group;
+  dirty = pages_below machine Inactive true group + pages_below machine Active true group;
 }

@@ -4,11 +4,11 @@ use Rattle.std.specs.Option.{option_map_or}
 use Rattle.std.specs.Fmt.{decimal}
 use Rattle.group_tree.specs.declared.group.Group.{Group}
 use Rattle.group_tree.specs.Groups.{path_of}
-use Rattle.stock_word.specs.declared.view.Stock.{Stock}
-use Rattle.stock_word.specs.declared.view.Stock.TheVariants.{NoGroup, HeldBy, DrainedOf}
+use Rattle.stock_word.specs.declared.stock.Stock.{Stock}
+use Rattle.stock_word.specs.declared.stock.Stock.TheVariants.{NoGroup, HeldBy, DrainedOf}
 use Rattle.control_files.specs.Limit.{page_bytes}
-use Rattle.cpu_part.specs.Cpus.{KnownCpu}
-use Rattle.frame_word.specs.Seats.{KnownTable}
+use Rattle.boot_words.specs.Tables.{KnownTable}
+use Rattle.cpu_part.specs.Cpus.{KnownCpuLists}
 use Rattle.mem_machine.specs.{KnownMachine, stock_left}
 use Rattle.machine_texts.specs.Characters.{characters}
 
@@ -24,17 +24,17 @@ stock_text groups (HeldBy group pages) = owner_text groups group ++ (codes " " +
 stock_text groups (DrainedOf group) = codes "drained " ++ owner_text groups group
 
 -- how many frames the CPU has on its list, how many are fresh or back, and how many pins it has
-abbrev pub counts_text : KnownCpu → List ℕ
+abbrev pub counts_text : KnownCpuLists → List ℕ
 counts_text cpu =
     codes " list " ++ decimal (length cpu.list) ++ codes " fresh " ++ decimal (length cpu.fresh)
     ++ codes " back " ++ decimal (length cpu.back) ++ codes " pins " ++ decimal (length cpu.pins)
 
 -- the line about a CPU with this stock
-abbrev pub cpu_text : List Group → KnownCpu → Stock → List ℕ
+abbrev pub cpu_text : List Group → KnownCpuLists → Stock → List ℕ
 cpu_text groups cpu stock =
     codes "cpu " ++ decimal cpu.number ++ codes " stock "
     ++ (stock_text groups stock ++ (counts_text cpu ++ codes "\n"))
 
 -- what is written for `stock`: the line about the CPU with its stock after the machine's past
-abbrev pub stock_line_text : KnownTable → KnownMachine → KnownCpu → List ℕ
+abbrev pub stock_line_text : KnownTable → KnownMachine → KnownCpuLists → List ℕ
 stock_line_text table machine cpu = cpu_text machine.ledger.groups cpu (stock_left table machine cpu.number)

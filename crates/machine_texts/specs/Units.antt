@@ -2,8 +2,8 @@
 use Rattle.std.specs.Prelude.{◌≡◌, ℕ, ◌+◌, ◌<◌, ◌==◌, Bool, List, [], ◌∷◌, ◌++◌, codes, map, if◌then◌else◌}
 use Rattle.std.specs.Option.{option_map_or}
 use Rattle.std.specs.Fmt.{decimal}
-use Rattle.frame_word.specs.{most_references, KnownTable}
-use Rattle.boot_words.specs.{LoadsReferences, own_past, zone_of_boot}
+use Rattle.step_rules.specs.State.{most_references}
+use Rattle.boot_words.specs.{LoadsReferences, own_past, zone_of_boot, KnownTable}
 use Rattle.lru_lists.specs.declared.record.Entry.{Entry}
 use Rattle.lru_lists.specs.declared.record.LruList.{LruList}
 use Rattle.lru_lists.specs.declared.record.LruList.TheVariants.{Inactive, Active}

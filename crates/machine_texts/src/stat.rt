@@ -2,31 +2,35 @@
 
 ghost use Rattle.std.specs.Prelude.{◌≡◌, ◌<◌, ◌≤◌, ◌^◌, IsTrue};
 ghost use Rattle.group_tree.specs.Groups.{has_group};
+ghost use Rattle.group_charge.specs.Charges.{current_of};
+ghost use Rattle.control_files.specs.Stat.{file_pages};
 ghost use Rattle.machine_texts.specs.Stat.{counted_pages, is_counted, memory_stat, pages_below, pages_on, pages_shared};
 ghost use Rattle.machine_texts.specs.Stat.{pages_at};
 
 use control_files::stat::MemoryStat;
-use control_files::text::PAGE_BYTES;
 use cpu_part::BootName;
 use group_tree::group::GroupId;
 use lru_lists::record::{Entry, LruList};
-use mem_machine::{FrameState, Machine};
+use mem_machine::{FrameState, Machine, prove_charges};
 
 /// What memory.stat shows of a group: what it and those below it keep. The units are counted anew, list by list, since
 /// nothing else needs these sums.
 pub fn memory_stat<N: BootName>(machine: &Machine<N>, group: GroupId) -> MemoryStat
     requires { IsTrue (has_group machine.now.ledger.groups group) }
-    ensures { result ≡ memory_stat machine.now group }
+    ensures shown { result ≡ memory_stat machine.now group }
+    ensures charged { file_pages result ≤ current_of machine.now.ledger group }
 {
     let inactive = pages_below(machine, group, LruList::Inactive, false);
     let active = pages_below(machine, group, LruList::Active, false);
     let inactive_dirty = pages_below(machine, group, LruList::Inactive, true);
     let active_dirty = pages_below(machine, group, LruList::Active, true);
+    machine.prove_consistent();
+    machine.prove_usage(group); // Below 2^32, and no less than what is kept.
+    prove_charges(machine.charges());
     MemoryStat {
-        file: (inactive + active) * PAGE_BYTES,
-        file_dirty: (inactive_dirty + active_dirty) * PAGE_BYTES,
-        inactive_file: inactive * PAGE_BYTES,
-        active_file: active * PAGE_BYTES,
+        inactive: inactive as u32,
+        active: active as u32,
+        dirty: (inactive_dirty + active_dirty) as u32,
     }
 }
 

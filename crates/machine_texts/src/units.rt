@@ -23,8 +23,8 @@ pub fn write_units<N: BootName>(
     group: GroupId,
     text: &mut String,
 ) -> Result<(), AllocError>
-    requires rests { Rests N.frames machine.old }
-    ensures units { ReadsUnits N.frames group
+    requires rests { Rests N.table machine.old }
+    ensures units { ReadsUnits N.table group
         (λ shown. AddsBytes result text.old text.new shown) machine.old machine.new }
 {
     if keeps_none(machine, group) {
@@ -54,8 +54,8 @@ fn write_list<N: BootName>(
     list: LruList,
     text: &mut String,
 ) -> Result<(), AllocError>
-    requires rests { Rests N.frames machine.old }
-    ensures lines { ReadsLines N.frames group list
+    requires rests { Rests N.table machine.old }
+    ensures lines { ReadsLines N.table group list
         (λ shown. AddsBytes result text.old text.new shown) machine.old machine.new }
 {
     let count = machine.list_len(group, list);
@@ -90,7 +90,7 @@ fn first_error(
 
 // The order of the unit that the frame heads.
 fn order_of<N: BootName>(machine: &Machine<N>, head: Frame) -> u32
-    requires { head < N.frames.frames }
+    requires { head < N.table.frames }
     ensures { result ≡ order_at machine.now head }
 {
     match machine.unit(head) {

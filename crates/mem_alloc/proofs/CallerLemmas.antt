@@ -1,10 +1,10 @@
 -- What crates above cite: the group over whose limit a charge would have gone is there.
 use Rattle.std.proofs.Common.{◌≡◌, ℕ, ◌^◌, true, subst, sym}
 use Rattle.std.specs.Prelude.{Err}
-use Rattle.frame_word.specs.Seats.{KnownTable}
 use Rattle.group_tree.specs.Groups.{has_group}
 use Rattle.group_tree.proofs.CallerLemmas.{in_subtree-above}
-use Rattle.cpu_part.specs.Cpus.{KnownCpu}
+use Rattle.boot_words.specs.Tables.{KnownTable}
+use Rattle.cpu_part.specs.Cpus.{KnownCpuLists}
 use Rattle.zone_blocks.specs.declared.config.Config.{Config}
 use Rattle.step_rules.specs.After.{Run}
 use Rattle.mem_machine.specs.{KnownMachine, visit_state, transition}
@@ -13,7 +13,7 @@ use Rattle.mem_alloc.specs.{IsRefusedFor, AllocatesFrame, AllocatesBlock}
 use Rattle.mem_alloc.proofs.Lowering.{lowered_there}
 use Rattle.mem_alloc.proofs.Filling.{refused_lowers}
 
-over_there : (t : KnownTable) (g pages over : ℕ) (m n : KnownMachine) (c d : KnownCpu) (steps : Run)
+over_there : (t : KnownTable) (g pages over : ℕ) (m n : KnownMachine) (c d : KnownCpuLists) (steps : Run)
     → IsRefusedFor g pages (Over over) (transition t (visit_state m c) steps (visit_state n d)) → has_group n.ledger.groups over ≡ true
 over_there t g pages over m n c d steps h =
     let at = h.does.does.0 in
@@ -23,7 +23,7 @@ over_there t g pages over m n c d steps h =
     (in_subtree-above h.cleared.ledger.groups at g refused.lowest.on_path))
 
 -- after a frame was refused
-pub frame_over_there : (t : KnownTable) (sizes : Config) (g over : ℕ) (m n : KnownMachine) (c d : KnownCpu) (steps : Run)
+pub frame_over_there : (t : KnownTable) (sizes : Config) (g over : ℕ) (m n : KnownMachine) (c d : KnownCpuLists) (steps : Run)
     → AllocatesFrame sizes g (Err (Over over)) (transition t (visit_state m c) steps (visit_state n d)) → has_group n.ledger.groups over ≡ true
 frame_over_there t sizes g over m n c d steps h =
     let anew = h.does.does in
@@ -31,6 +31,6 @@ frame_over_there t sizes g over m n c d steps h =
     over_there t g 1 over charges.between.machine n charges.between.cpu d charges.later charges.second
 
 -- after a block was refused
-pub block_over_there : (t : KnownTable) (g k over : ℕ) (m n : KnownMachine) (c d : KnownCpu) (steps : Run)
+pub block_over_there : (t : KnownTable) (g k over : ℕ) (m n : KnownMachine) (c d : KnownCpuLists) (steps : Run)
     → AllocatesBlock g k (Err (Over over)) (transition t (visit_state m c) steps (visit_state n d)) → has_group n.ledger.groups over ≡ true
 block_over_there t g k over m n c d steps h = over_there t g (2 ^ k) over m n c d steps h.does

@@ -3,12 +3,12 @@ use Rattle.std.proofs.Common.{◌≡◌, ℕ, ◌+◌, ◌≤◌, ◌⊎◌, Boo
 use Rattle.std.proofs.Common.{length-append}
 use Rattle.std.proofs.lemmas.Bool.{cases_lt, false≢true}
 use Rattle.std.proofs.lemmas.List.{append_assoc, append-nil}
-use Rattle.frame_word.specs.Seats.{KnownTable}
 use Rattle.group_tree.specs.declared.group.Group.{Group}
-use Rattle.group_charge.specs.declared.settings.Settings.{Settings}
+use Rattle.group_charge.specs.declared.settings.ReclaimSettings.{ReclaimSettings}
 use Rattle.group_charge.specs.Charges.{Ledger}
 use Rattle.group_protection.specs.Protections.{min_key, setting}
-use Rattle.cpu_part.specs.Cpus.{KnownCpu}
+use Rattle.boot_words.specs.Tables.{KnownTable}
+use Rattle.cpu_part.specs.Cpus.{KnownCpuLists}
 use Rattle.step_rules.specs.After.{Run}
 use Rattle.mem_machine.specs.{KnownMachine, is_killed, VisitState, LendsMany}
 use Rattle.mem_alloc.specs.{IsAlive, KillsUntilRoom, has_room_at, ChargesKillLast, KillsComeLast, KillsEndInTime, RefillsAreWhole, WasLast}
@@ -57,7 +57,7 @@ kills_come_last MayAsk t start steps before rest made g none is kills =
 
 -- what is set for a group is so in each ledger with these settings
 same_min : (a b : Ledger) (g : ℕ) → a.settings ≡ b.settings → setting min_key a g ≡ setting min_key b g
-same_min a b g is = ap (λ (l : List Settings). setting min_key (record a { settings = l }) g) is
+same_min a b g is = ap (λ (l : List ReclaimSettings). setting min_key (record a { settings = l }) g) is
 
 pub tries_all_without_min : (MayAsk : List Group → ℕ → ℕ → Type 0) → TriesAllWithoutMin MayAsk
 tries_all_without_min MayAsk t start tried killed last none f home below kept clean = elim (last.frozen f home below kept clean) [
@@ -103,9 +103,9 @@ kills_end_in_time requester g pages call kills = by_room (has_room_at call.befor
 
 -- the frames that were lent are at the end of the list
 lent_list : (frames : List ℕ) (a b : VisitState) → LendsMany frames a b → b.cpu.list ≡ a.cpu.list ++ frames
-lent_list [] a b h = ap (λ (e : KnownCpu). e.list) h.cpu ∙ sym (append-nil a.cpu.list)
+lent_list [] a b h = ap (λ (e : KnownCpuLists). e.list) h.cpu ∙ sym (append-nil a.cpu.list)
 lent_list (f ∷ frames) a b h =
-    lent_list frames h.between b h.rest ∙ ap (λ (e : KnownCpu). e.list ++ frames) h.first.lends.cpu ∙ append_assoc a.cpu.list (f ∷ []) frames
+    lent_list frames h.between b h.rest ∙ ap (λ (e : KnownCpuLists). e.list ++ frames) h.first.lends.cpu ∙ append_assoc a.cpu.list (f ∷ []) frames
 
 pub refills_are_whole : RefillsAreWhole
 refills_are_whole batch call refill =

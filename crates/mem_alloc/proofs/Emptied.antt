@@ -1,9 +1,9 @@
 -- A stock that is drained stays drained while room is made. Serves `fill_one`.
 use Rattle.std.proofs.Common.{ℕ, Option, Some, List, [], ◌∷◌, refl, sym, subst, inl, inr}
 use Rattle.std.proofs.lemmas.Bool.{cases_Bool, cases_lt}
-use Rattle.frame_word.specs.Seats.{KnownTable}
 use Rattle.boot_words.specs.Pasts.{IsHeld}
 use Rattle.step_rules.specs.After.{Run}
+use Rattle.boot_words.specs.Tables.{KnownTable}
 use Rattle.mem_machine.specs.{KnownMachine, with_run, HasDrained, IsDrained, of_subtree, note_max_steps, note_oom_steps, MachineStays, transition}
 use Rattle.mem_machine.proofs.StocksKept.{drained_kept}
 use Rattle.mem_reclaim.specs.declared.sets.Killed.{Killed}

@@ -5,16 +5,15 @@ use Rattle.std.proofs.Common.{arith, length-append}
 use Rattle.std.specs.Prelude.{Result, Ok, Err, IsErr, IfErr, OnOk}
 use Rattle.std.proofs.lemmas.List.{append_assoc, append-nil}
 use Rattle.zone_blocks.specs.{HasNoneFrom, IsValidConfig}
-use Rattle.frame_word.specs.Seats.{KnownTable}
-use Rattle.stock_word.specs.declared.view.Stock.TheVariants.{HeldBy}
-use Rattle.cpu_part.specs.Cpus.{KnownCpu}
+use Rattle.stock_word.specs.declared.stock.Stock.TheVariants.{HeldBy}
+use Rattle.cpu_part.specs.Cpus.{KnownCpuLists}
 use Rattle.zone_blocks.specs.declared.config.Config.{Config}
 use Rattle.step_rules.specs.After.{Run}
 use Rattle.group_charge.specs.declared.note.Note.TheVariants.{Zone}
 use Rattle.mem_machine.specs.{KnownMachine, is_killed, with_note, with_run, Makes, VisitMakes, Visits, visit_state, LendsMany, Refills, HoldsPage}
 use Rattle.mem_machine.specs.{MayCharge, PaysForFront, stock_now, Drains, Fills, stock_group, drain_steps, refill_steps, take_front_steps, BySteps}
 use Rattle.mem_machine.specs.{Finds, transition}
-use Rattle.boot_words.specs.{IsHeld, stock_in}
+use Rattle.boot_words.specs.{IsHeld, stock_in, KnownTable}
 use Rattle.mem_machine.proofs.StocksKept.{filled_stock, has_stock_step, stock_kept, stock_left}
 use Rattle.mem_reclaim.specs.Staying.{Keeps}
 use Rattle.mem_alloc.specs.declared.faults.AllocFault.{AllocFault}
@@ -31,13 +30,13 @@ use Rattle.mem_machine.proofs.Followed.{makes_both, makes_none}
 -- ---- what is kept
 
 -- the CPU's number and lists
-pub record KeepsPart (c d : KnownCpu) : Type 0 where
+pub record KeepsPart (c d : KnownCpuLists) : Type 0 where
   pub number : d.number ≡ c.number
   pub list : d.list ≡ c.list
   pub fresh : d.fresh ≡ c.fresh
   pub back : d.back ≡ c.back
 
-pub keeps_both : (c y d : KnownCpu) → KeepsPart c y → KeepsPart y d → KeepsPart c d
+pub keeps_both : (c y d : KnownCpuLists) → KeepsPart c y → KeepsPart y d → KeepsPart c d
 keeps_both c y d a b = record {
   number = b.number ∙ a.number;
   list = b.list ∙ a.list;
@@ -45,12 +44,12 @@ keeps_both c y d a b = record {
   back = b.back ∙ a.back;
 }
 
-same_keeps : (c d : KnownCpu) → d ≡ c → KeepsPart c d
+same_keeps : (c d : KnownCpuLists) → d ≡ c → KeepsPart c d
 same_keeps c d same = record {
-  number = ap (λ (e : KnownCpu). e.number) same;
-  list = ap (λ (e : KnownCpu). e.list) same;
-  fresh = ap (λ (e : KnownCpu). e.fresh) same;
-  back = ap (λ (e : KnownCpu). e.back) same;
+  number = ap (λ (e : KnownCpuLists). e.number) same;
+  list = ap (λ (e : KnownCpuLists). e.list) same;
+  fresh = ap (λ (e : KnownCpuLists). e.fresh) same;
+  back = ap (λ (e : KnownCpuLists). e.back) same;
 }
 
 pub refused_lowers : (t : KnownTable) (g pages over : ℕ) (answer : Result (Unit {0}) AllocFault) (m n : KnownMachine) (steps : Run)
@@ -65,16 +64,16 @@ makes_lower t g pages (over ∷ later) m n steps h =
     lowers_both t m h.between n (refused_lowers t g pages over (Ok tt) m h.between h.earlier h.first)
     (makes_lower t g pages later h.between n h.later h.second)
 
-refusal_keeps : (t : KnownTable) (g pages : ℕ) (cause : AllocFault) (m n : KnownMachine) (c d : KnownCpu) (steps : Run)
+refusal_keeps : (t : KnownTable) (g pages : ℕ) (cause : AllocFault) (m n : KnownMachine) (c d : KnownCpuLists) (steps : Run)
     → IsRefusedFor g pages cause (transition t (visit_state m c) steps (visit_state n d)) → KeepsPart c d
 refusal_keeps t g pages cause m n c d steps h = same_keeps c d h.does.cpu
 
-one_keeps : (t : KnownTable) (g : ℕ) (r : Result (Unit {0}) AllocFault) (m n : KnownMachine) (c d : KnownCpu) (steps : Run)
+one_keeps : (t : KnownTable) (g : ℕ) (r : Result (Unit {0}) AllocFault) (m n : KnownMachine) (c d : KnownCpuLists) (steps : Run)
     → ChargesOne g r (transition t (visit_state m c) steps (visit_state n d)) → KeepsPart c d
 one_keeps t g (Ok v) m n c d steps h = same_keeps c d h.does.cpu
 one_keeps t g (Err e) m n c d steps h = refusal_keeps t g 1 e m n c d steps h
 
-charges_keep : (t : KnownTable) (sizes : Config) (g : ℕ) (r : Result (Unit {0}) AllocFault) (m n : KnownMachine) (c d : KnownCpu) (steps : Run)
+charges_keep : (t : KnownTable) (sizes : Config) (g : ℕ) (r : Result (Unit {0}) AllocFault) (m n : KnownMachine) (c d : KnownCpuLists) (steps : Run)
     → FillsDrainedStock sizes g r (transition t (visit_state m c) steps (visit_state n d)) → KeepsPart c d
 charges_keep t sizes g (Ok v) m n c d steps (inl h) = same_keeps c d h.fills.cpu
 charges_keep t sizes g (Ok v) m n c d steps (inr h) =
@@ -82,17 +81,17 @@ charges_keep t sizes g (Ok v) m n c d steps (inr h) =
 charges_keep t sizes g (Err e) m n c d steps h =
     keeps_both c h.between.cpu d (same_keeps c h.between.cpu h.first.cpu) (one_keeps t g (Err e) h.between.machine n h.between.cpu d h.later h.second)
 
-own_drain_keeps : (t : KnownTable) (m n : KnownMachine) (c d : KnownCpu) (steps : Run) → DrainsStock (transition t (visit_state m c) steps (visit_state n d)) → KeepsPart c d
+own_drain_keeps : (t : KnownTable) (m n : KnownMachine) (c d : KnownCpuLists) (steps : Run) → DrainsStock (transition t (visit_state m c) steps (visit_state n d)) → KeepsPart c d
 own_drain_keeps t m n c d steps h = same_keeps c d h.cpu
 
-drain_charges_keep : (t : KnownTable) (sizes : Config) (g : ℕ) (r : Result (Unit {0}) AllocFault) (m n : KnownMachine) (c d : KnownCpu) (steps : Run)
+drain_charges_keep : (t : KnownTable) (sizes : Config) (g : ℕ) (r : Result (Unit {0}) AllocFault) (m n : KnownMachine) (c d : KnownCpuLists) (steps : Run)
     → ChargesAfterDrain sizes g r (transition t (visit_state m c) steps (visit_state n d)) → KeepsPart c d
 drain_charges_keep t sizes g r m n c d steps h =
     let x = h.does.between in
     keeps_both c x.cpu d (own_drain_keeps t m x.machine c x.cpu h.does.earlier h.does.first)
     (charges_keep t sizes g r x.machine n x.cpu d h.does.later h.does.second)
 
-pub pays_keep : (t : KnownTable) (sizes : Config) (g : ℕ) (r : Result (Unit {0}) AllocFault) (m n : KnownMachine) (c d : KnownCpu) (steps : Run)
+pub pays_keep : (t : KnownTable) (sizes : Config) (g : ℕ) (r : Result (Unit {0}) AllocFault) (m n : KnownMachine) (c d : KnownCpuLists) (steps : Run)
     → PaysForFrame sizes g r (transition t (visit_state m c) steps (visit_state n d)) → KeepsPart c d
 pays_keep t sizes g (Ok v) m n c d steps (inl h) = same_keeps c d h.does.cpu
 pays_keep t sizes g (Ok v) m n c d steps (inr h) = drain_charges_keep t sizes g (Ok v) m n c d steps h
@@ -100,27 +99,27 @@ pays_keep t sizes g (Err e) m n c d steps h = drain_charges_keep t sizes g (Err 
 
 -- ---- the stock holds a page
 
-filled_page : (t : KnownTable) (g k : ℕ) (m n : KnownMachine) (c d : KnownCpu) (steps : Run) → Visits t n d
+filled_page : (t : KnownTable) (g k : ℕ) (m n : KnownMachine) (c d : KnownCpuLists) (steps : Run) → Visits t n d
     → FillsStock g k (transition t (visit_state m c) steps (visit_state n d)) → 1 ≤ k → c.fresh ≡ [] → HoldsPage t n d.number g
 filled_page t g k m n c d steps visit f some none =
-    let number = ap (λ (e : KnownCpu). e.number) f.cpu in
+    let number = ap (λ (e : KnownCpuLists). e.number) f.cpu in
     let fills : Fills t d.number g k m n = subst (λ (p : ℕ). Fills t p g k m n) (sym number) f.fills in
     let all : k - 1 + 1 ≡ k = omega (arith, some) in
-    (k - 1, filled_stock t m n d g k visit (ap (λ (e : KnownCpu). e.fresh) f.cpu ∙ none) fills ∙ ap (HeldBy g) (sym all))
+    (k - 1, filled_stock t m n d g k visit (ap (λ (e : KnownCpuLists). e.fresh) f.cpu ∙ none) fills ∙ ap (HeldBy g) (sym all))
 
-pub charged_page : (t : KnownTable) (sizes : Config) (g : ℕ) (r : Result (Unit {0}) AllocFault) (m n : KnownMachine) (c d : KnownCpu) (steps : Run)
+pub charged_page : (t : KnownTable) (sizes : Config) (g : ℕ) (r : Result (Unit {0}) AllocFault) (m n : KnownMachine) (c d : KnownCpuLists) (steps : Run)
     → IsValidConfig sizes → Visits t n d → FillsDrainedStock sizes g r (transition t (visit_state m c) steps (visit_state n d)) → c.fresh ≡ []
     → OnOk r (HoldsPage t n d.number g)
 charged_page t sizes g (Ok v) m n c d steps valid visit (inl h) none = filled_page t g sizes.stock m n c d steps visit h.fills valid.stock_low none
 charged_page t sizes g (Ok v) m n c d steps valid visit (inr h) none =
     let one = h.second in
-    filled_page t g 1 one.cleared n h.between.cpu d one.later visit one.does (omega arith) (ap (λ (e : KnownCpu). e.fresh) h.first.cpu ∙ none)
+    filled_page t g 1 one.cleared n h.between.cpu d one.later visit one.does (omega arith) (ap (λ (e : KnownCpuLists). e.fresh) h.first.cpu ∙ none)
 charged_page t sizes g (Err e) m n c d steps valid visit h none = tt
 
 -- ---- the own stock has a page
 
 -- it had one before
-pub pays_none : (t : KnownTable) (m n : KnownMachine) (c : KnownCpu) → n ≡ m → (sizes : Config) (g : ℕ) → HoldsPage t m c.number g
+pub pays_none : (t : KnownTable) (m n : KnownMachine) (c : KnownCpuLists) → n ≡ m → (sizes : Config) (g : ℕ) → HoldsPage t m c.number g
     → BySteps VisitMakes t (PaysForFrame sizes g (Ok tt)) (visit_state m c) (visit_state n c)
 pays_none t m n c same sizes g page = record {
   steps = [];
@@ -130,27 +129,27 @@ pays_none t m n c same sizes g page = record {
 
 -- ---- frames that are lent
 
-pub record LentPart (frames : List ℕ) (m : KnownMachine) (c : KnownCpu) (n : KnownMachine) (d : KnownCpu) : Type 0 where
+pub record LentPart (frames : List ℕ) (m : KnownMachine) (c : KnownCpuLists) (n : KnownMachine) (d : KnownCpuLists) : Type 0 where
   pub number : d.number ≡ c.number
   pub list : d.list ≡ c.list ++ frames
   pub fresh : d.fresh ≡ c.fresh
   pub back : d.back ≡ c.back
 
-pub lent_part : (frames : List ℕ) (m n : KnownMachine) (c d : KnownCpu) → LendsMany frames (visit_state m c) (visit_state n d) → LentPart frames m c n d
+pub lent_part : (frames : List ℕ) (m n : KnownMachine) (c d : KnownCpuLists) → LendsMany frames (visit_state m c) (visit_state n d) → LentPart frames m c n d
 lent_part [] m n c d h = record {
-  number = ap (λ (e : KnownCpu). e.number) h.cpu;
-  list = ap (λ (e : KnownCpu). e.list) h.cpu ∙ sym (append-nil c.list);
-  fresh = ap (λ (e : KnownCpu). e.fresh) h.cpu;
-  back = ap (λ (e : KnownCpu). e.back) h.cpu;
+  number = ap (λ (e : KnownCpuLists). e.number) h.cpu;
+  list = ap (λ (e : KnownCpuLists). e.list) h.cpu ∙ sym (append-nil c.list);
+  fresh = ap (λ (e : KnownCpuLists). e.fresh) h.cpu;
+  back = ap (λ (e : KnownCpuLists). e.back) h.cpu;
 }
 lent_part (f ∷ frames) m n c d h =
     let one = h.first.lends in
     let more = lent_part frames h.between.machine n h.between.cpu d h.rest in
     record {
-      number = more.number ∙ ap (λ (e : KnownCpu). e.number) one.cpu;
-      list = more.list ∙ ap (λ (e : KnownCpu). e.list ++ frames) one.cpu ∙ append_assoc c.list (f ∷ []) frames;
-      fresh = more.fresh ∙ ap (λ (e : KnownCpu). e.fresh) one.cpu;
-      back = more.back ∙ ap (λ (e : KnownCpu). e.back) one.cpu;
+      number = more.number ∙ ap (λ (e : KnownCpuLists). e.number) one.cpu;
+      list = more.list ∙ ap (λ (e : KnownCpuLists). e.list ++ frames) one.cpu ∙ append_assoc c.list (f ∷ []) frames;
+      fresh = more.fresh ∙ ap (λ (e : KnownCpuLists). e.fresh) one.cpu;
+      back = more.back ∙ ap (λ (e : KnownCpuLists). e.back) one.cpu;
     }
 
 lent_calm : (p : ℕ) (frames : List ℕ) → has_stock_step (refill_steps p frames) ≡ false
@@ -158,13 +157,13 @@ lent_calm p [] = refl
 lent_calm p (f ∷ frames) = lent_calm p frames
 
 -- the stock has the same pages
-pub lent_stock : (t : KnownTable) (frames : List ℕ) (m n : KnownMachine) (c d : KnownCpu) → IsHeld t m.run.past → Makes t m (refill_steps c.number frames) n
+pub lent_stock : (t : KnownTable) (frames : List ℕ) (m n : KnownMachine) (c d : KnownCpuLists) → IsHeld t m.run.past → Makes t m (refill_steps c.number frames) n
     → LendsMany frames (visit_state m c) (visit_state n d) → stock_now t n d.number ≡ stock_now t m c.number
 lent_stock t frames m n c d held makes lends =
     stock_kept t m n (refill_steps c.number frames) held makes (lent_calm c.number frames) c d (lent_part frames m n c d lends).number
 
 -- a reclaim leaves its pages
-pub spared_stock : (t : KnownTable) (m n : KnownMachine) (c : KnownCpu) → Visits t m c → Keeps t m n → c.fresh ≡ []
+pub spared_stock : (t : KnownTable) (m n : KnownMachine) (c : KnownCpuLists) → Visits t m c → Keeps t m n → c.fresh ≡ []
     → stock_now t n c.number ≡ stock_now t m c.number
 spared_stock t m n c visit keeps none =
     let later = keeps.visit c visit in
@@ -173,12 +172,12 @@ spared_stock t m n c visit keeps none =
 -- ---- the parts put together
 
 -- the batch fits
-pub batch_fits : (t : KnownTable) (sizes : Config) (g : ℕ) (m n : KnownMachine) (c : KnownCpu) → BySteps VisitMakes t (FillsBatch g sizes.stock) (visit_state m c) (visit_state n c)
+pub batch_fits : (t : KnownTable) (sizes : Config) (g : ℕ) (m n : KnownMachine) (c : KnownCpuLists) → BySteps VisitMakes t (FillsBatch g sizes.stock) (visit_state m c) (visit_state n c)
     → BySteps VisitMakes t (FillsDrainedStock sizes g (Ok tt)) (visit_state m c) (visit_state n c)
 batch_fits t sizes g m n c fills = record { steps = fills.steps; does = inl fills.does; makes = fills.makes }
 
 -- the batch doesn't fit, and then one page is charged, or is refused
-module _ (t : KnownTable) (sizes : Config) (g : ℕ) (m x n : KnownMachine) (c d : KnownCpu) (lacks : BySteps Makes t (LacksBatch g sizes.stock) m x) where
+module _ (t : KnownTable) (sizes : Config) (g : ℕ) (m x n : KnownMachine) (c d : KnownCpuLists) (lacks : BySteps Makes t (LacksBatch g sizes.stock) m x) where
   charges_one : (r : Result (Unit {0}) AllocFault) → BySteps VisitMakes t (ChargesOne g r) (visit_state x c) (visit_state n d)
       → BySteps VisitMakes t (ChargesNoBatch sizes g r) (visit_state m c) (visit_state n d)
   charges_one r b = record {
@@ -206,7 +205,7 @@ still_may t g pages k m x steps (inr h) may =
     subst (λ (z : KnownMachine). MayCharge z g k) (sym h.machine) (record { there = may.there; alive = may.alive; fits = may.fits })
 
 -- the own stock is drained first
-module _ (t : KnownTable) (pages q : ℕ) (m k x : KnownMachine) (c : KnownCpu) (same : k ≡ m) (named : q ≡ c.number)
+module _ (t : KnownTable) (pages q : ℕ) (m k x : KnownMachine) (c : KnownCpuLists) (same : k ≡ m) (named : q ≡ c.number)
     (drains : Drains t q pages k x) (draining : Makes t k (drain_steps q (stock_group t k q) pages) x) where
   abbrev own_steps : Run
   own_steps = drain_steps c.number (stock_group t m c.number) pages
@@ -227,7 +226,7 @@ module _ (t : KnownTable) (pages q : ℕ) (m k x : KnownMachine) (c : KnownCpu) 
   drained_own = record { steps = own_steps; does = drains_own; makes = by_drain }
 
   -- it had no page of the group
-  module _ (sizes : Config) (g : ℕ) (n : KnownMachine) (d : KnownCpu) (lacks : ¬ HoldsPage t m c.number g) where
+  module _ (sizes : Config) (g : ℕ) (n : KnownMachine) (d : KnownCpuLists) (lacks : ¬ HoldsPage t m c.number g) where
     charges_anew : (r : Result (Unit {0}) AllocFault) → BySteps VisitMakes t (FillsDrainedStock sizes g r) (visit_state x c) (visit_state n d)
         → BySteps VisitMakes t (ChargesAfterDrain sizes g r) (visit_state m c) (visit_state n d)
     charges_anew r b = record {
@@ -246,17 +245,17 @@ module _ (t : KnownTable) (pages q : ℕ) (m k x : KnownMachine) (c : KnownCpu) 
 
 -- ---- the list
 
-none_lent : (frames : List ℕ) (m n : KnownMachine) (c d : KnownCpu) → length frames ≡ 0 → LendsMany frames (visit_state m c) (visit_state n d) → (n ≡ m) × (d ≡ c)
+none_lent : (frames : List ℕ) (m n : KnownMachine) (c d : KnownCpuLists) → length frames ≡ 0 → LendsMany frames (visit_state m c) (visit_state n d) → (n ≡ m) × (d ≡ c)
 none_lent [] m n c d none h = (h.machine, h.cpu)
 none_lent (f ∷ frames) m n c d none h = absurd (omega (arith, none))
 
 -- no frame was lent, since none is free
-no_steps : (t : KnownTable) (frames : List ℕ) (m n : KnownMachine) (c d : KnownCpu) → length frames ≡ 0
+no_steps : (t : KnownTable) (frames : List ℕ) (m n : KnownMachine) (c d : KnownCpuLists) → length frames ≡ 0
     → Makes t m (refill_steps c.number frames) n → Makes t m [] n
 no_steps t [] m n c d none run = run
 no_steps t (f ∷ frames) m n c d none run = absurd (omega (arith, none))
 
-pub lent_none : (t : KnownTable) (count batch : ℕ) (m n : KnownMachine) (c d : KnownCpu) → Refills t count (visit_state m c) (visit_state n d)
+pub lent_none : (t : KnownTable) (count batch : ℕ) (m n : KnownMachine) (c d : KnownCpuLists) → Refills t count (visit_state m c) (visit_state n d)
     → count ≤ 0 → (count < batch → HasNoneFrom n.blocks 0) → 1 ≤ batch → BySteps VisitMakes t LendsNoFrame (visit_state m c) (visit_state n d)
 lent_none t count batch m n c d refills few fewer some =
     let all = refills.all in
@@ -269,7 +268,7 @@ lent_none t count batch m n c d refills few fewer some =
     }
 
 -- some were lent
-pub lent_batch : (t : KnownTable) (count batch : ℕ) (m n : KnownMachine) (c d : KnownCpu) (refills : Refills t count (visit_state m c) (visit_state n d))
+pub lent_batch : (t : KnownTable) (count batch : ℕ) (m n : KnownMachine) (c d : KnownCpuLists) (refills : Refills t count (visit_state m c) (visit_state n d))
     → 1 ≤ count → count ≤ batch → (count < batch → HasNoneFrom n.blocks 0)
     → LendsBatch batch (transition t (visit_state m c) (refill_steps c.number refills.frames) (visit_state n d))
 lent_batch t count batch m n c d refills many low fewer =
@@ -288,7 +287,7 @@ lent_batch t count batch m n c d refills many low fewer =
 pub no_frame_spares : (t : KnownTable) → FailureSpares t LendsNoFrame
 no_frame_spares t m n c d steps h = spares_same t m n c d h.does.machine h.does.cpu
 
-none_after : (t : KnownTable) (rounds : ℕ) (m n : KnownMachine) (c d : KnownCpu) (steps : Run) → HasNoneFrom m.blocks 0
+none_after : (t : KnownTable) (rounds : ℕ) (m n : KnownMachine) (c d : KnownCpuLists) (steps : Run) → HasNoneFrom m.blocks 0
     → FailsInRounds rounds 1 LendsNoFrame (transition t (visit_state m c) steps (visit_state n d)) → HasNoneFrom n.blocks 0
 none_after t zero m n c d steps none h = subst (λ (x : KnownMachine). HasNoneFrom x.blocks 0) (sym h.machine) none
 none_after t (suc more) m n c d steps none (inl h) =
@@ -300,10 +299,10 @@ none_after t (suc more) m n c d steps none (inr h) =
     none_after t more h.between.machine n h.between.cpu d h.later here h.second
 
 -- no frame is free, also after rounds of reclaim, and the stock is drained
-module _ (t : KnownTable) (sizes : Config) (m k x n : KnownMachine) (c e y : KnownCpu) (empty : c.list ≡ [])
+module _ (t : KnownTable) (sizes : Config) (m k x n : KnownMachine) (c e y : KnownCpuLists) (empty : c.list ≡ [])
     (first : BySteps VisitMakes t LendsNoFrame (visit_state m c) (visit_state k e)) where
-  from_first : (P : KnownMachine → KnownCpu → Type 0) → P k e → P m c
-  from_first P p = subst (λ (z : KnownMachine × KnownCpu). P z.0 z.1) (λ i. (first.does.does.machine i, first.does.does.cpu i)) p
+  from_first : (P : KnownMachine → KnownCpuLists → Type 0) → P k e → P m c
+  from_first P p = subst (λ (z : KnownMachine × KnownCpuLists). P z.0 z.1) (λ i. (first.does.does.machine i, first.does.does.cpu i)) p
 
   pub no_frame : (pages q : ℕ) → BySteps VisitMakes t (RefillsInRounds sizes.batch false) (visit_state k e) (visit_state x y) → q ≡ y.number → Drains t q pages x n
       → Makes t x (drain_steps q (stock_group t x q) pages) n → BySteps VisitMakes t (FillsList sizes (Err NoFrames)) (visit_state m c) (visit_state n y)
@@ -338,7 +337,7 @@ module _ (t : KnownTable) (sizes : Config) (m k x n : KnownMachine) (c e y : Kno
         makes = here.makes;
       }
 
-pub no_frame_keeps : (t : KnownTable) (sizes : Config) (cause : AllocFault) (m n : KnownMachine) (c d : KnownCpu) (steps : Run)
+pub no_frame_keeps : (t : KnownTable) (sizes : Config) (cause : AllocFault) (m n : KnownMachine) (c d : KnownCpuLists) (steps : Run)
     → FillsList sizes (Err cause) (transition t (visit_state m c) steps (visit_state n d)) → KeepsPart c d
 no_frame_keeps t sizes (Over over) m n c d steps h = absurd h
 no_frame_keeps t sizes RequesterKilled m n c d steps h = absurd h
@@ -349,7 +348,7 @@ no_frame_keeps t sizes NoFrames m n c d steps h =
     keeps_both c x.cpu d (same_keeps c x.cpu rounds.cpu)
     (own_drain_keeps t x.machine n x.cpu d all.later all.second.does)
 
-module _ (t : KnownTable) (sizes : Config) (m n : KnownMachine) (c d : KnownCpu) (steps : Run)
+module _ (t : KnownTable) (sizes : Config) (m n : KnownMachine) (c d : KnownCpuLists) (steps : Run)
     (h : Finds HasNoFreeFrame (RefillsInRounds sizes.batch true) (transition t (visit_state m c) steps (visit_state n d))) where
   abbrev last : InTheEnd t 1 LendsNoFrame (no_frame_spares t) (LendsBatch sizes.batch) m c (visit_state n d)
   last = noted_in_the_end t 1 LendsNoFrame (no_frame_spares t) 0 (LendsBatch sizes.batch) m c (visit_state n d) steps h.does
@@ -362,13 +361,13 @@ module _ (t : KnownTable) (sizes : Config) (m n : KnownMachine) (c d : KnownCpu)
       omega (arith, some, a)
 
 -- what a list that has a frame leaves
-pub record FilledPart (sizes : Config) (m : KnownMachine) (c : KnownCpu) (n : KnownMachine) (d : KnownCpu) : Type 0 where
+pub record FilledPart (sizes : Config) (m : KnownMachine) (c : KnownCpuLists) (n : KnownMachine) (d : KnownCpuLists) : Type 0 where
   pub number : d.number ≡ c.number
   pub fresh : d.fresh ≡ c.fresh
   pub back : d.back ≡ c.back
   pub high : length c.list ≤ sizes.high → length d.list ≤ sizes.high
 
-batch_part : (t : KnownTable) (sizes : Config) (m n : KnownMachine) (c d : KnownCpu) (steps : Run) → IsValidConfig sizes → c.list ≡ []
+batch_part : (t : KnownTable) (sizes : Config) (m n : KnownMachine) (c d : KnownCpuLists) (steps : Run) → IsValidConfig sizes → c.list ≡ []
     → LendsBatch sizes.batch (transition t (visit_state m c) steps (visit_state n d)) → FilledPart sizes m c n d
 batch_part t sizes m n c d steps valid empty h =
     let l = lent_part h.frames m n c d h.lends in
@@ -384,50 +383,50 @@ batch_part t sizes m n c d steps valid empty h =
           omega (arith, a, b, e, v);
     }
 
-refilled_part : (t : KnownTable) (sizes : Config) (m n : KnownMachine) (c d : KnownCpu) (steps : Run) → IsValidConfig sizes → c.list ≡ []
+refilled_part : (t : KnownTable) (sizes : Config) (m n : KnownMachine) (c d : KnownCpuLists) (steps : Run) → IsValidConfig sizes → c.list ≡ []
     → RefillsList sizes.batch (transition t (visit_state m c) steps (visit_state n d)) → FilledPart sizes m c n d
 refilled_part t sizes m n c d steps valid empty (inl h) = batch_part t sizes m n c d steps valid empty h
 refilled_part t sizes m n c d steps valid empty (inr h) =
     let e = noted_in_the_end t 1 LendsNoFrame (no_frame_spares t) 0 (LendsBatch sizes.batch) m c (visit_state n d) steps h.does in
     let cpu = e.spares.cpu in
-    let b = batch_part t sizes e.before n e.cpu d e.trying valid (ap (λ (y : KnownCpu). y.list) cpu ∙ empty) e.succeeds in
+    let b = batch_part t sizes e.before n e.cpu d e.trying valid (ap (λ (y : KnownCpuLists). y.list) cpu ∙ empty) e.succeeds in
     record {
-      number = b.number ∙ ap (λ (y : KnownCpu). y.number) cpu;
-      fresh = b.fresh ∙ ap (λ (y : KnownCpu). y.fresh) cpu;
-      back = b.back ∙ ap (λ (y : KnownCpu). y.back) cpu;
-      high = λ low. let a : length e.cpu.list ≡ length c.list = ap (λ (y : KnownCpu). length y.list) cpu in b.high (omega (arith, a, low));
+      number = b.number ∙ ap (λ (y : KnownCpuLists). y.number) cpu;
+      fresh = b.fresh ∙ ap (λ (y : KnownCpuLists). y.fresh) cpu;
+      back = b.back ∙ ap (λ (y : KnownCpuLists). y.back) cpu;
+      high = λ low. let a : length e.cpu.list ≡ length c.list = ap (λ (y : KnownCpuLists). length y.list) cpu in b.high (omega (arith, a, low));
     }
 
-pub filled_part : (t : KnownTable) (sizes : Config) (m n : KnownMachine) (c d : KnownCpu) (steps : Run) → IsValidConfig sizes → FillsList sizes (Ok tt) (transition t (visit_state m c) steps (visit_state n d))
+pub filled_part : (t : KnownTable) (sizes : Config) (m n : KnownMachine) (c d : KnownCpuLists) (steps : Run) → IsValidConfig sizes → FillsList sizes (Ok tt) (transition t (visit_state m c) steps (visit_state n d))
     → FilledPart sizes m c n d
 filled_part t sizes m n c d steps valid (inl h) = record {
-  number = ap (λ (e : KnownCpu). e.number) h.does.cpu;
-  fresh = ap (λ (e : KnownCpu). e.fresh) h.does.cpu;
-  back = ap (λ (e : KnownCpu). e.back) h.does.cpu;
-  high = λ low. let a : length d.list ≡ length c.list = ap (λ (e : KnownCpu). length e.list) h.does.cpu in omega (arith, a, low);
+  number = ap (λ (e : KnownCpuLists). e.number) h.does.cpu;
+  fresh = ap (λ (e : KnownCpuLists). e.fresh) h.does.cpu;
+  back = ap (λ (e : KnownCpuLists). e.back) h.does.cpu;
+  high = λ low. let a : length d.list ≡ length c.list = ap (λ (e : KnownCpuLists). length e.list) h.does.cpu in omega (arith, a, low);
 }
 filled_part t sizes m n c d steps valid (inr h) = refilled_part t sizes m n c d steps valid h.is h.does
 
 -- ---- the whole allocation
 
-module _ (t : KnownTable) (sizes : Config) (g : ℕ) (m : KnownMachine) (c : KnownCpu) (alive : is_killed m.killed g ≡ false) where
+module _ (t : KnownTable) (sizes : Config) (g : ℕ) (m : KnownMachine) (c : KnownCpuLists) (alive : is_killed m.killed g ≡ false) where
   -- a charge is refused for good
-  refused_for : (x : AllocFault) (n : KnownMachine) (d : KnownCpu) → BySteps VisitMakes t (PaysForFrame sizes g (Err x)) (visit_state m c) (visit_state n d)
+  refused_for : (x : AllocFault) (n : KnownMachine) (d : KnownCpuLists) → BySteps VisitMakes t (PaysForFrame sizes g (Err x)) (visit_state m c) (visit_state n d)
       → BySteps VisitMakes t (AllocatesFrame sizes g (Err x)) (visit_state m c) (visit_state n d)
   refused_for (Over over) n d b = record { steps = b.steps; does = record { is = alive; does = b.does }; makes = b.makes }
   refused_for NoFrames n d b = absurd b.does.does.second.second.does.does.1.room
   refused_for RequesterKilled n d b = record { steps = b.steps; does = inr (record { is = alive; does = b.does }); makes = b.makes }
 
-  pub not_paid : (r : Result ℕ AllocFault) (x : AllocFault) (n : KnownMachine) (d : KnownCpu) → IsErr r → IfErr r (λ e. e ≡ x)
+  pub not_paid : (r : Result ℕ AllocFault) (x : AllocFault) (n : KnownMachine) (d : KnownCpuLists) → IsErr r → IfErr r (λ e. e ≡ x)
       → BySteps VisitMakes t (PaysForFrame sizes g (Err x)) (visit_state m c) (visit_state n d) → BySteps VisitMakes t (AllocatesFrame sizes g r) (visit_state m c) (visit_state n d)
   not_paid r x n d not is b =
       subst (λ (z : Result ℕ AllocFault). BySteps VisitMakes t (AllocatesFrame sizes g z) (visit_state m c) (visit_state n d))
       (sym (answer_is r x not is))
       (refused_for x n d b)
 
-  module _ (k : KnownMachine) (y : KnownCpu) (pays : BySteps VisitMakes t (PaysForFrame sizes g (Ok tt)) (visit_state m c) (visit_state k y)) where
+  module _ (k : KnownMachine) (y : KnownCpuLists) (pays : BySteps VisitMakes t (PaysForFrame sizes g (Ok tt)) (visit_state m c) (visit_state k y)) where
     -- no frame is free
-    none_found : (x : AllocFault) (n : KnownMachine) (d : KnownCpu) → BySteps VisitMakes t (FillsList sizes (Err x)) (visit_state k y) (visit_state n d)
+    none_found : (x : AllocFault) (n : KnownMachine) (d : KnownCpuLists) → BySteps VisitMakes t (FillsList sizes (Err x)) (visit_state k y) (visit_state n d)
         → BySteps VisitMakes t (AllocatesFrame sizes g (Err x)) (visit_state m c) (visit_state n d)
     none_found (Over over) n d b = absurd b.does
     none_found RequesterKilled n d b = absurd b.does
@@ -440,7 +439,7 @@ module _ (t : KnownTable) (sizes : Config) (g : ℕ) (m : KnownMachine) (c : Kno
       makes = makes_both t pays.steps b.steps m k n pays.makes b.makes;
     }
 
-    pub not_found : (r : Result ℕ AllocFault) (x : AllocFault) (n : KnownMachine) (d : KnownCpu) → IsErr r → IfErr r (λ e. e ≡ x)
+    pub not_found : (r : Result ℕ AllocFault) (x : AllocFault) (n : KnownMachine) (d : KnownCpuLists) → IsErr r → IfErr r (λ e. e ≡ x)
         → BySteps VisitMakes t (FillsList sizes (Err x)) (visit_state k y) (visit_state n d) → BySteps VisitMakes t (AllocatesFrame sizes g r) (visit_state m c) (visit_state n d)
     not_found r x n d not is b =
         subst (λ (z : Result ℕ AllocFault). BySteps VisitMakes t (AllocatesFrame sizes g z) (visit_state m c) (visit_state n d))
@@ -448,7 +447,7 @@ module _ (t : KnownTable) (sizes : Config) (g : ℕ) (m : KnownMachine) (c : Kno
         (none_found x n d b)
 
     -- the front of the list is paid for
-    pub gets_frame : (f : ℕ) (l n : KnownMachine) (z d : KnownCpu) → z.number ≡ c.number → BySteps VisitMakes t (FillsList sizes (Ok tt)) (visit_state k y) (visit_state l z)
+    pub gets_frame : (f : ℕ) (l n : KnownMachine) (z d : KnownCpuLists) → z.number ≡ c.number → BySteps VisitMakes t (FillsList sizes (Ok tt)) (visit_state k y) (visit_state l z)
         → PaysForFront t g f (visit_state l z) (visit_state n d) → Makes t l (take_front_steps z.number g) n
         → BySteps VisitMakes t (AllocatesFrame sizes g (Ok f)) (visit_state m c) (visit_state n d)
     gets_frame f l n z d named fills takes steps =

@@ -4,7 +4,6 @@ use Rattle.std.proofs.Common.{subst, inl, inr, arith, cond, length}
 use Rattle.std.specs.Prelude.{set, slice_index_or, slice_set}
 use Rattle.std.proofs.lemmas.Bool.{and_parts, cases_Bool, cases_lt, false≢true, not-true}
 use Rattle.std.proofs.lemmas.List.{append_assoc, append-nil, get_or-set_same, length-set}
-use Rattle.frame_word.specs.Seats.{KnownTable}
 use Rattle.group_tree.specs.declared.group.Group.{Group}
 use Rattle.group_tree.specs.Groups.{has_group, in_subtree}
 use Rattle.group_tree.specs.declared.event.EventKey.TheVariants.{Oom}
@@ -16,6 +15,7 @@ use Rattle.group_charge.proofs.SumLemmas.{share}
 use Rattle.boot_words.specs.Pasts.{IsHeld}
 use Rattle.step_rules.specs.{sum_to, Run}
 use Rattle.group_charge.specs.declared.note.Note.TheVariants as notes
+use Rattle.boot_words.specs.Tables.{KnownTable}
 use Rattle.mem_machine.specs.{IsConsistent, KnownMachine, is_killed, with_run, with_note, Makes, StaysVisited, note_oom_steps, BySteps, MachineStays}
 use Rattle.mem_machine.specs.{transition, KnownRun}
 use Rattle.mem_reclaim.specs.declared.sets.Killed.{Killed}

@@ -4,7 +4,6 @@ use Rattle.std.proofs.Common.{subst, inl, inr, arith, cond, eq-eqb}
 use Rattle.std.specs.List.{sum_by}
 use Rattle.std.proofs.lemmas.Bool.{cases_eq, cases_lt, ne_eqb, cond-true, cond-false, false≢true}
 use Rattle.std.proofs.lemmas.List.Sums.{sum_by-cons}
-use Rattle.frame_word.specs.Seats.{KnownTable}
 use Rattle.group_tree.specs.declared.group.Group.{Group}
 use Rattle.group_tree.specs.{has_group, in_subtree, limit_of, fits_limit, PathHasRoom}
 use Rattle.group_charge.specs.declared.account.Account as charge
@@ -13,6 +12,7 @@ use Rattle.group_charge.proofs.CallerLemmas.{sum-map_same}
 use Rattle.group_charge.proofs.SumLemmas.{share}
 use Rattle.step_rules.specs.State.{sum_to}
 use Rattle.step_rules.specs.After.{Run}
+use Rattle.boot_words.specs.Tables.{KnownTable}
 use Rattle.mem_machine.specs.{KnownMachine, is_killed, with_run, HasRoomFor, Drain, DrainsAllBelow, of_subtree, transition, KnownRun}
 use Rattle.mem_reclaim.proofs.LettingGo.{drains_leave}
 use Rattle.mem_reclaim.specs.Staying.{Keeps}

@@ -3,11 +3,11 @@ use Rattle.std.proofs.Common.{◌≡◌, ℕ, ◌+◌, Bool, false, Option, None
 use Rattle.std.specs.Prelude.{Result, Ok, Err, IsErr, IfErr, IfOk, MatchResult}
 use Rattle.std.proofs.lemmas.Bool.{false≢true}
 use Rattle.std.proofs.lemmas.List.{append_assoc, append-nil}
-use Rattle.frame_word.specs.Seats.{KnownTable}
 use Rattle.boot_words.specs.Pasts.{IsHeld}
 use Rattle.group_tree.specs.{limit_of, IsLowestOver, fits_limit}
 use Rattle.group_charge.specs.Charges.{current_of, with_max_noted}
-use Rattle.cpu_part.specs.Cpus.{KnownCpu}
+use Rattle.boot_words.specs.Tables.{KnownTable}
+use Rattle.cpu_part.specs.Cpus.{KnownCpuLists}
 use Rattle.step_rules.specs.After.{Run}
 use Rattle.mem_machine.specs.{KnownMachine, is_killed, with_run, Makes, StaysVisited, VisitMakes, Visits, VisitState, visit_state, over_steps}
 use Rattle.mem_machine.specs.{note_max_steps, drain_stocks_steps, fill_steps, Fills, DrainsSubtree, DrainsAllBelow, AreDrained, BySteps, Transition}
@@ -118,7 +118,7 @@ prepared_more t g pages over before m x n making last makes refused = record {
 }
 
 -- what the loops keep: the charges so far were refused at groups that have room now, and nothing else happened
-pub record RoomSoFar (t : KnownTable) (g pages : ℕ) (c : KnownCpu) (m n : KnownMachine) : Type 0 where
+pub record RoomSoFar (t : KnownTable) (g pages : ℕ) (c : KnownCpuLists) (m n : KnownMachine) : Type 0 where
   pub refused_at : List ℕ
   pub making : Run
   pub makes : PreparesCharge g refused_at pages (transition t m making n)
@@ -127,7 +127,7 @@ pub record RoomSoFar (t : KnownTable) (g pages : ℕ) (c : KnownCpu) (m n : Know
   pub lowers : Lowers t m n
   pub alive : is_killed n.killed g ≡ false
 
-pub so_far_none : (t : KnownTable) (g pages : ℕ) (c : KnownCpu) (m x : KnownMachine) → BySteps Makes t (ReclaimsHigh g pages) m x → is_killed m.killed g ≡ false
+pub so_far_none : (t : KnownTable) (g pages : ℕ) (c : KnownCpuLists) (m x : KnownMachine) → BySteps Makes t (ReclaimsHigh g pages) m x → is_killed m.killed g ≡ false
     → RoomSoFar t g pages c m x
 so_far_none t g pages c m x high alive = record {
   refused_at = [];
@@ -146,9 +146,9 @@ so_far_none t g pages c m x high alive = record {
   alive = ap (λ (k : List Bool). is_killed k g) high.does.keeps.killed ∙ alive;
 }
 
-module _ (t : KnownTable) (g pages : ℕ) (c : KnownCpu) (m x : KnownMachine) (so_far : RoomSoFar t g pages c m x) where
+module _ (t : KnownTable) (g pages : ℕ) (c : KnownCpuLists) (m x : KnownMachine) (so_far : RoomSoFar t g pages c m x) where
   -- one more charge was refused, by its steps
-  module _ (y z n : KnownMachine) (d e : KnownCpu) (over : ℕ) (same : y ≡ with_run x y.run) (mine : d ≡ c) (mine_after : e ≡ c)
+  module _ (y z n : KnownMachine) (d e : KnownCpuLists) (over : ℕ) (same : y ≡ with_run x y.run) (mine : d ≡ c) (mine_after : e ≡ c)
       (low : IsLowestOver z.ledger.groups (current_of z.ledger) g pages over) (before_it : z ≡ x)
       (refusing : Makes t z (over_steps g pages over) y) (relieves : BySteps Makes t (RelievesLimit g over pages) y n) where
     refused : (answer : Result (Unit {0}) AllocFault) → IsRoomAnswer g over pages answer n
@@ -179,7 +179,7 @@ module _ (t : KnownTable) (g pages : ℕ) (c : KnownCpu) (m x : KnownMachine) (s
       makes = prepared_more t g pages over so_far.refused_at m x n so_far.making
           (over_steps g pages over ++ relieves.steps) so_far.makes (refused (Ok tt) room);
       runs = runs_on;
-      visit = λ v. subst (λ (k : KnownCpu). Visits t n k) mine_after visit;
+      visit = λ v. subst (λ (k : KnownCpuLists). Visits t n k) mine_after visit;
       lowers = lowers_both t m x n so_far.lowers lowered;
       alive = room.alive;
     }
@@ -201,7 +201,7 @@ module _ (t : KnownTable) (g pages : ℕ) (c : KnownCpu) (m x : KnownMachine) (s
     }
 
   -- this is done by steps of its own, now that there is room
-  pub so_far_does : (Does : Transition VisitState → Type 0) (n : KnownMachine) (d : KnownCpu) → BySteps VisitMakes t Does (visit_state x c) (visit_state n d)
+  pub so_far_does : (Does : Transition VisitState → Type 0) (n : KnownMachine) (d : KnownCpuLists) → BySteps VisitMakes t Does (visit_state x c) (visit_state n d)
       → BySteps VisitMakes t (AfterRoom g pages Does) (visit_state m c) (visit_state n d)
   so_far_does Does n d b = record {
     steps = so_far.making ++ b.steps;
@@ -236,10 +236,10 @@ answer_is (Ok v) x not is = absurd (false≢true not)
 answer_is (Err e) x not is = ap (λ (z : AllocFault). Err z) is
 
 -- a refusal for good of a charge of one page
-pub refuses_one : (t : KnownTable) (g : ℕ) (r : Result (Unit {0}) AllocFault) (cause : AllocFault) (m : KnownMachine) (c : KnownCpu) (n : KnownMachine) (d : KnownCpu)
+pub refuses_one : (t : KnownTable) (g : ℕ) (r : Result (Unit {0}) AllocFault) (cause : AllocFault) (m : KnownMachine) (c : KnownCpuLists) (n : KnownMachine) (d : KnownCpuLists)
     → r ≡ Err cause → d ≡ c → BySteps VisitMakes t (IsRefusedFor g 1 cause) (visit_state m c) (visit_state n c) → BySteps VisitMakes t (ChargesOne g r) (visit_state m c) (visit_state n d)
 refuses_one t g r cause m c n d is cpu b =
-    subst (λ (z : KnownCpu × Result (Unit {0}) AllocFault). BySteps VisitMakes t (ChargesOne g z.1) (visit_state m c) (visit_state n z.0))
+    subst (λ (z : KnownCpuLists × Result (Unit {0}) AllocFault). BySteps VisitMakes t (ChargesOne g z.1) (visit_state m c) (visit_state n z.0))
     (λ i. (sym cpu i, sym is i)) b
 
 pub if_ok_none : {T E : Type 0} (r : Result T E) (P : T → Type 0) → IsErr r → IfOk r P

@@ -6,7 +6,6 @@ use Rattle.std.proofs.lemmas.Option.{none-some}
 use Rattle.std.proofs.lemmas.Bool.{cases_Bool, cases_lt, false≢true}
 use Rattle.std.proofs.lemmas.List.{append_assoc, append-nil}
 use Rattle.std.proofs.lemmas.List.Folds.{list_any-append}
-use Rattle.frame_word.specs.Seats.{KnownTable}
 use Rattle.boot_words.specs.Pasts.{IsHeld}
 use Rattle.group_tree.specs.declared.event.EventKey.TheVariants as event
 use Rattle.group_tree.specs.declared.group.Group.{Group}
@@ -17,7 +16,8 @@ use Rattle.group_protection.proofs.Topping.{kept_still}
 use Rattle.lru_lists.specs.declared.record.Link.{Link}
 use Rattle.lru_lists.specs.declared.record.Home.{Home}
 use Rattle.lru_lists.specs.{owner_of, link_at}
-use Rattle.cpu_part.specs.Cpus.{KnownCpu}
+use Rattle.boot_words.specs.Tables.{KnownTable}
+use Rattle.cpu_part.specs.Cpus.{KnownCpuLists}
 use Rattle.step_rules.specs.declared.step.Action.TheVariants.{Kill}
 use Rattle.step_rules.specs.declared.step.Answer.{Answer}
 use Rattle.step_rules.specs.declared.step.Step.{Step}
@@ -491,7 +491,7 @@ module _ (t : KnownTable) (MayAsk : List Group → ℕ → ℕ → Type 0) (s : 
         subst (λ (k : Run). Tame made m k n) (sym h.steps_are) (tame_both made m x n h.earlier h.later one two)
 
     -- this is done after room was made for the charge, and comes no kill of it too early
-    pub after_room_rash : (Does : Transition VisitState → Type 0) (made : Run) (m : KnownMachine) (c : KnownCpu) (steps : Run) (n : VisitState) → m.ledger.groups ≡ base
+    pub after_room_rash : (Does : Transition VisitState → Type 0) (made : Run) (m : KnownMachine) (c : KnownCpuLists) (steps : Run) (n : VisitState) → m.ledger.groups ≡ base
         → Passes t s made m
         → ((done later : Run) (x : KnownMachine) → x.ledger.groups ≡ base → Passes t s done x
         → Does (transition t (visit_state x c) later n) → RashFree t MayAsk s done later)
@@ -504,7 +504,7 @@ module _ (t : KnownTable) (MayAsk : List Group → ℕ → ℕ → Type 0) (s : 
         (free (made ++ h.making) h.later x (one.groups ∙ is) done h.does))
 
     -- the same if what is done after that kills nobody
-    pub quiet_after_room : (Does : Transition VisitState → Type 0) (made : Run) (m : KnownMachine) (c : KnownCpu) (steps : Run) (n : VisitState) → m.ledger.groups ≡ base
+    pub quiet_after_room : (Does : Transition VisitState → Type 0) (made : Run) (m : KnownMachine) (c : KnownCpuLists) (steps : Run) (n : VisitState) → m.ledger.groups ≡ base
         → Passes t s made m → ((call : Transition VisitState) → Does call → has_kill call.steps ≡ false)
         → AfterRoom g pages Does (transition t (visit_state m c) steps n) → RashFree t MayAsk s made steps
     quiet_after_room Does made m c steps n is since quiet h =
@@ -512,7 +512,7 @@ module _ (t : KnownTable) (MayAsk : List Group → ℕ → ℕ → Type 0) (s : 
         (λ done later x groups passes does. rash_quiet done later (quiet (transition t (visit_state x c) later n) does)) h
 
     -- the same if the charge is refused for good
-    pub refusal_rash : (cause : AllocFault) (made : Run) (m : KnownMachine) (c : KnownCpu) (steps : Run) (n : VisitState) → m.ledger.groups ≡ base
+    pub refusal_rash : (cause : AllocFault) (made : Run) (m : KnownMachine) (c : KnownCpuLists) (steps : Run) (n : VisitState) → m.ledger.groups ≡ base
         → Passes t s made m → IsRefusedFor g pages cause (transition t (visit_state m c) steps n)
         → RashFree t MayAsk s made steps
     refusal_rash cause made m c steps n is since h =

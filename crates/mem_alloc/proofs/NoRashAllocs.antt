@@ -1,12 +1,12 @@
 -- No kill of an allocation comes before everything else was tried. Serves the calls that name the steps of an Alloc.
 use Rattle.std.proofs.Common.{◌≡◌, ℕ, ◌≤◌, ◌^◌, true, false, List, [], ◌++◌, refl, sym, ap, ◌∙◌, subst, inl, inr}
 use Rattle.std.specs.Prelude.{Result, Ok, Err}
-use Rattle.frame_word.specs.Seats.{KnownTable}
 use Rattle.boot_words.specs.Pasts.{IsHeld}
 use Rattle.group_tree.specs.declared.group.Group.{Group}
 use Rattle.group_tree.specs.Groups.{in_subtree}
 use Rattle.zone_blocks.specs.declared.config.Config.{Config}
-use Rattle.cpu_part.specs.Cpus.{KnownCpu}
+use Rattle.boot_words.specs.Tables.{KnownTable}
+use Rattle.cpu_part.specs.Cpus.{KnownCpuLists}
 use Rattle.step_rules.specs.After.{Run}
 use Rattle.mem_machine.specs.{KnownMachine, Makes, VisitState, visit_state, take_front_steps, Transition, transition}
 use Rattle.mem_reclaim.specs.Moves.{has_kill}
@@ -20,7 +20,7 @@ use Rattle.mem_alloc.proofs.NoRash.{Passes, RashFree, drain_same, passes_both, p
 
 -- ---- the whole of an allocation
 
-module _ (t : KnownTable) (MayAsk : List Group → ℕ → ℕ → Type 0) (s : KnownMachine) (c : KnownCpu) (held_there : IsHeld t s.run.past) (g : ℕ) where
+module _ (t : KnownTable) (MayAsk : List Group → ℕ → ℕ → Type 0) (s : KnownMachine) (c : KnownCpuLists) (held_there : IsHeld t s.run.past) (g : ℕ) where
   abbrev Asks : ℕ → Type 0
   Asks pages = (over : ℕ) → in_subtree s.ledger.groups over g ≡ true → pages ≤ 8 → MayAsk s.ledger.groups over pages
 
@@ -56,7 +56,7 @@ module _ (t : KnownTable) (MayAsk : List Group → ℕ → ℕ → Type 0) (s : 
     lacks_rash sizes answer made x steps n is since h =
         let y = h.between in
         let lacks = no_batch_passes sizes x h.earlier y.machine h.first.does in
-        let one = subst (λ (e : KnownCpu). ChargesOne g answer (transition t (visit_state y.machine e) h.later n)) h.first.cpu h.second in
+        let one = subst (λ (e : KnownCpuLists). ChargesOne g answer (transition t (visit_state y.machine e) h.later n)) h.first.cpu h.second in
         subst (λ (k : Run). RashFree t MayAsk s made k) (sym h.steps_are) (rash_both t MayAsk s held_there made h.earlier h.later
         (rash_quiet t MayAsk s held_there made h.earlier lacks.2)
         (one_rash answer (made ++ h.earlier) y.machine h.later n (lacks.1 ∙ is) (passes_both t s x y.machine made h.earlier since lacks.0) one))
@@ -75,7 +75,7 @@ module _ (t : KnownTable) (MayAsk : List Group → ℕ → ℕ → Type 0) (s : 
         let x = h.between in
         let same = drain_same t s x.machine c.number h.first.drained h.first.drains in
         let passes = passes_same t s x.machine h.earlier h.first.runs same.links same.settings in
-        let charges = subst (λ (y : KnownCpu). FillsDrainedStock sizes g answer (transition t (visit_state x.machine y) h.later n)) h.first.cpu h.second in
+        let charges = subst (λ (y : KnownCpuLists). FillsDrainedStock sizes g answer (transition t (visit_state x.machine y) h.later n)) h.first.cpu h.second in
         subst (λ (k : Run). RashFree t MayAsk s [] k) (sym h.steps_are) (rash_both t MayAsk s held_there [] h.earlier h.later
         (rash_quiet t MayAsk s held_there [] h.earlier (drains_calm (transition t (visit_state s c) h.earlier x) h.first))
         (charges_rash sizes answer h.earlier x.machine h.later n same.groups passes charges))

@@ -2,8 +2,8 @@
 -- `take_after_drain`, and those who call them.
 use Rattle.std.proofs.Common.{◌≡◌, ◌≢◌, ℕ, zero, suc, ◌+◌, ◌-◌, ◌<◌, ◌≤◌, [], ◌++◌, refl, sym, ap, ◌∙◌, subst, inl, inr, arith, rules}
 use Rattle.std.proofs.lemmas.List.{append_assoc, append-nil}
-use Rattle.frame_word.specs.Seats.{KnownTable}
-use Rattle.cpu_part.specs.Cpus.{KnownCpu}
+use Rattle.boot_words.specs.Tables.{KnownTable}
+use Rattle.cpu_part.specs.Cpus.{KnownCpuLists}
 use Rattle.step_rules.specs.After.{Run}
 use Rattle.group_charge.specs.declared.note.Note.{Note}
 use Rattle.group_charge.specs.declared.note.Note.TheVariants.{Zone}
@@ -17,46 +17,46 @@ use Rattle.mem_machine.proofs.Made.{visit_same}
 -- ---- what a failed try keeps
 
 -- the machine as after a note, a drain or a reclaim; and the CPU's part stays
-pub record Spares (t : KnownTable) (m : KnownMachine) (c : KnownCpu) (n : KnownMachine) (d : KnownCpu) : Type 0 where
+pub record Spares (t : KnownTable) (m : KnownMachine) (c : KnownCpuLists) (n : KnownMachine) (d : KnownCpuLists) : Type 0 where
   pub lowers : Lowers t m n
   pub killed : n.killed ≡ m.killed
   pub cpu : d ≡ c
 
-pub spares_none : (t : KnownTable) (m : KnownMachine) (c : KnownCpu) → Spares t m c m c
+pub spares_none : (t : KnownTable) (m : KnownMachine) (c : KnownCpuLists) → Spares t m c m c
 spares_none t m c = record { lowers = lowers_none t m; killed = refl; cpu = refl }
 
-pub spares_both : (t : KnownTable) (m x n : KnownMachine) (c y d : KnownCpu) → Spares t m c x y → Spares t x y n d → Spares t m c n d
+pub spares_both : (t : KnownTable) (m x n : KnownMachine) (c y d : KnownCpuLists) → Spares t m c x y → Spares t x y n d → Spares t m c n d
 spares_both t m x n c y d a b = record {
   lowers = lowers_both t m x n a.lowers b.lowers;
   killed = b.killed ∙ a.killed;
   cpu = b.cpu ∙ a.cpu;
 }
 
-pub spares_same : (t : KnownTable) (m n : KnownMachine) (c d : KnownCpu) → n ≡ m → d ≡ c → Spares t m c n d
+pub spares_same : (t : KnownTable) (m n : KnownMachine) (c d : KnownCpuLists) → n ≡ m → d ≡ c → Spares t m c n d
 spares_same t m n c d machine cpu = record {
   lowers = subst (λ (x : KnownMachine). Lowers t m x) (sym machine) (lowers_none t m);
   killed = ap (λ (x : KnownMachine). x.killed) machine;
   cpu = cpu;
 }
 
-spares_reclaim : (t : KnownTable) (m n : KnownMachine) (c : KnownCpu) → Keeps t m n → Spares t m c n c
+spares_reclaim : (t : KnownTable) (m n : KnownMachine) (c : KnownCpuLists) → Keeps t m n → Spares t m c n c
 spares_reclaim t m n c keeps = record { lowers = keeps_lower t m n keeps; killed = keeps.killed; cpu = refl }
 
 -- a try that fails keeps this
 abbrev pub FailureSpares : KnownTable → (Transition VisitState → Type 0) → Type 0
 FailureSpares t Fails =
-    (m n : KnownMachine) (c d : KnownCpu) (steps : Run) → Fails (transition t (visit_state m c) steps (visit_state n d)) → Spares t m c n d
+    (m n : KnownMachine) (c d : KnownCpuLists) (steps : Run) → Fails (transition t (visit_state m c) steps (visit_state n d)) → Spares t m c n d
 
 module _ (t : KnownTable) (want : ℕ) (Fails : Transition VisitState → Type 0) (failure : FailureSpares t Fails) where
   -- a round in which the try fails keeps it too
-  round_spares : (number freed : ℕ) (m n : KnownMachine) (c d : KnownCpu) (steps : Run)
+  round_spares : (number freed : ℕ) (m n : KnownMachine) (c d : KnownCpuLists) (steps : Run)
       → MakesRound number want freed Fails (transition t (visit_state m c) steps (visit_state n d)) → Spares t m c n d
   round_spares number freed m n c d steps h =
       spares_both t m h.reclaimed n c c d (spares_reclaim t m h.reclaimed c h.keeps)
       (failure h.reclaimed n c d h.trying h.tries)
 
   -- all such rounds keep it too
-  pub fails_spare : (rounds : ℕ) (m n : KnownMachine) (c d : KnownCpu) (steps : Run)
+  pub fails_spare : (rounds : ℕ) (m n : KnownMachine) (c d : KnownCpuLists) (steps : Run)
       → FailsInRounds rounds want Fails (transition t (visit_state m c) steps (visit_state n d)) → Spares t m c n d
   fails_spare zero m n c d steps h = spares_same t m n c d h.machine h.cpu
   fails_spare (suc more) m n c d steps (inl last) = round_spares (16 - more) 0 m n c d steps last
@@ -66,14 +66,14 @@ module _ (t : KnownTable) (want : ℕ) (Fails : Transition VisitState → Type 0
       (fails_spare more x.machine n x.cpu d h.later h.second)
 
   -- if the try succeeds in a round, this was kept until then
-  pub record InTheEnd (Succeeds : Transition VisitState → Type 0) (m : KnownMachine) (c : KnownCpu) (n : VisitState) : Type 0 where
+  pub record InTheEnd (Succeeds : Transition VisitState → Type 0) (m : KnownMachine) (c : KnownCpuLists) (n : VisitState) : Type 0 where
     pub before : KnownMachine
-    pub cpu : KnownCpu
+    pub cpu : KnownCpuLists
     pub trying : Run
     pub spares : Spares t m c before cpu
     pub succeeds : Succeeds (transition t (visit_state before cpu) trying n)
 
-  pub in_the_end : (Succeeds : Transition VisitState → Type 0) (rounds : ℕ) (m : KnownMachine) (c : KnownCpu) (n : VisitState) (steps : Run)
+  pub in_the_end : (Succeeds : Transition VisitState → Type 0) (rounds : ℕ) (m : KnownMachine) (c : KnownCpuLists) (n : VisitState) (steps : Run)
       → SucceedsInRounds rounds want Succeeds Fails (transition t (visit_state m c) steps n) → InTheEnd Succeeds m c n
   in_the_end Succeeds zero m c n steps h = absurd h
   in_the_end Succeeds (suc more) m c n steps (inl h) = record {
@@ -98,15 +98,15 @@ module _ (t : KnownTable) (want : ℕ) (Fails : Transition VisitState → Type 0
 -- ---- a note before them
 
 -- what is kept from a note on is kept from before it
-pub spares_after_note : (t : KnownTable) (m n : KnownMachine) (c d : KnownCpu) (note : Note) → Spares t (with_note m note) c n d → Spares t m c n d
+pub spares_after_note : (t : KnownTable) (m n : KnownMachine) (c d : KnownCpuLists) (note : Note) → Spares t (with_note m note) c n d → Spares t m c n d
 spares_after_note t m n c d note s = search rules
 
 -- a visit stays open at a note
-pub noted_visit : (t : KnownTable) (m : KnownMachine) (c : KnownCpu) (note : Note) → Visits t m c → Visits t (with_note m note) c
+pub noted_visit : (t : KnownTable) (m : KnownMachine) (c : KnownCpuLists) (note : Note) → Visits t m c → Visits t (with_note m note) c
 noted_visit t m c note v = visit_same t m (with_note m note) c refl v
 
 -- a note of the zone, and then what follows it
-pub zone_noted : (t : KnownTable) (order : ℕ) (Does : Transition VisitState → Type 0) (m x : KnownMachine) (c : KnownCpu) (n : VisitState)
+pub zone_noted : (t : KnownTable) (order : ℕ) (Does : Transition VisitState → Type 0) (m x : KnownMachine) (c : KnownCpuLists) (n : VisitState)
     → x ≡ with_note m (Zone order) → BySteps VisitMakes t Does (visit_state x c) n → BySteps VisitMakes t (AfterZoneNote order Does) (visit_state m c) n
 zone_noted t order Does m x c n noted by =
     let here = subst (λ (y : KnownMachine). BySteps VisitMakes t Does (visit_state y c) n) noted by in
@@ -119,13 +119,13 @@ zone_noted t order Does m x c n noted by =
 
 module _ (t : KnownTable) (want : ℕ) (Fails : Transition VisitState → Type 0) (failure : FailureSpares t Fails) (order : ℕ) where
   -- all rounds after the note keep what a failed try keeps
-  pub noted_fails_spare : (m n : KnownMachine) (c d : KnownCpu) (steps : Run)
+  pub noted_fails_spare : (m n : KnownMachine) (c d : KnownCpuLists) (steps : Run)
       → AfterZoneNote order (FailsInRounds 16 want Fails) (transition t (visit_state m c) steps (visit_state n d)) → Spares t m c n d
   noted_fails_spare m n c d steps h =
       spares_after_note t m n c d (Zone order) (fails_spare t want Fails failure 16 (with_note m (Zone order)) n c d steps h)
 
   -- if the try succeeds in one of them, this was kept until then
-  pub noted_in_the_end : (Succeeds : Transition VisitState → Type 0) (m : KnownMachine) (c : KnownCpu) (n : VisitState) (steps : Run)
+  pub noted_in_the_end : (Succeeds : Transition VisitState → Type 0) (m : KnownMachine) (c : KnownCpuLists) (n : VisitState) (steps : Run)
       → AfterZoneNote order (SucceedsInRounds 16 want Succeeds Fails) (transition t (visit_state m c) steps n) → InTheEnd t want Fails failure Succeeds m c n
   noted_in_the_end Succeeds m c n steps h =
       let e = in_the_end t want Fails failure Succeeds 16 (with_note m (Zone order)) c n steps h in
@@ -141,7 +141,7 @@ module _ (t : KnownTable) (want : ℕ) (Fails : Transition VisitState → Type 0
 
 -- this many rounds were made in which the try failed, so the result of the remaining rounds is the result of all
 pub record RoundsSoFar (t : KnownTable) (want : ℕ) (Fails : Transition VisitState → Type 0) (Succeeds : ℕ → Transition VisitState → Type 0)
-    (m : KnownMachine) (c : KnownCpu) (made : ℕ) (now : KnownMachine) (d : KnownCpu) : Type 0 where
+    (m : KnownMachine) (c : KnownCpuLists) (made : ℕ) (now : KnownMachine) (d : KnownCpuLists) : Type 0 where
   pub steps : Run
   pub fails : (rest : Run) (n : VisitState) → FailsInRounds (16 - made) want Fails (transition t (visit_state now d) rest n)
       → FailsInRounds 16 want Fails (transition t (visit_state m c) (steps ++ rest) n)
@@ -153,7 +153,7 @@ pub record RoundsSoFar (t : KnownTable) (want : ℕ) (Fails : Transition VisitSt
   pub spares : Spares t m c now d
 
 module _ (t : KnownTable) (want : ℕ) (Fails : Transition VisitState → Type 0) (Succeeds : ℕ → Transition VisitState → Type 0)
-    (m : KnownMachine) (c : KnownCpu) where
+    (m : KnownMachine) (c : KnownCpuLists) where
   pub rounds_none : RoundsSoFar t want Fails Succeeds m c 0 m c
   rounds_none = record {
     steps = [];
@@ -164,7 +164,7 @@ module _ (t : KnownTable) (want : ℕ) (Fails : Transition VisitState → Type 0
     spares = spares_none t m c;
   }
 
-  module _ (made : ℕ) (now : KnownMachine) (d : KnownCpu) (so : RoundsSoFar t want Fails Succeeds m c made now d) where
+  module _ (made : ℕ) (now : KnownMachine) (d : KnownCpuLists) (so : RoundsSoFar t want Fails Succeeds m c made now d) where
     -- it failed in all rounds
     pub rounds_done : 16 ≤ made → BySteps VisitMakes t (FailsInRounds 16 want Fails) (visit_state m c) (visit_state now d)
     rounds_done all =
@@ -179,7 +179,7 @@ module _ (t : KnownTable) (want : ℕ) (Fails : Transition VisitState → Type 0
 
     -- one round more
     module _ (left : made < 16) (freed : ℕ) (x : KnownMachine) (leads : FreesBySteps t freed now x (ReclaimsRound 0 (made + 1) want))
-        (missed : freed < want → MissedAll 0 now x) (keeps : Keeps t now x) (then : KnownMachine) (e : KnownCpu) (trying : Run)
+        (missed : freed < want → MissedAll 0 now x) (keeps : Keeps t now x) (then : KnownMachine) (e : KnownCpuLists) (trying : Run)
         (tries : Makes t x trying then) where
       next_left : suc (16 - (made + 1)) ≡ 16 - made
       next_left = omega (arith, left)

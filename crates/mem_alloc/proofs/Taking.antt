@@ -3,12 +3,12 @@ use Rattle.std.proofs.Common.{◌≡◌, ℕ, ◌^◌, ◌<◌, ◌≤◌, true,
 use Rattle.std.specs.Prelude.{Result, Ok, Err}
 use Rattle.std.proofs.lemmas.Bool.{cases_lt, false≢true}
 use Rattle.std.proofs.lemmas.List.{append-nil, length-append, take_all}
-use Rattle.frame_word.specs.Seats.{KnownTable}
 use Rattle.group_tree.specs.declared.group.Group.{Group}
 use Rattle.group_tree.specs.{has_group, PathHasRoom, IsLowestOver}
 use Rattle.group_charge.specs.declared.charges.Over.{Over as OverLimit}
 use Rattle.group_charge.specs.Charges.{current_of, with_charge, with_uncharge}
-use Rattle.cpu_part.specs.Cpus.{KnownCpu}
+use Rattle.boot_words.specs.Tables.{KnownTable}
+use Rattle.cpu_part.specs.Cpus.{KnownCpuLists}
 use Rattle.step_rules.specs.After.{Run}
 use Rattle.mem_machine.specs.declared.blocks.TakeFault.{TakeFault}
 use Rattle.mem_machine.specs.declared.blocks.TakeFault.TheVariants as fault
@@ -63,10 +63,10 @@ room_left t g k m x n lowers alive none there fits =
 
 -- ---- after the tries that were refused
 
-module _ (t : KnownTable) (g k : ℕ) (c : KnownCpu) (m x : KnownMachine) (so_far : RoomSoFar t g (2 ^ k) c m x) (y : KnownCpu) (mine : y ≡ c)
-    (n : KnownMachine) (d : KnownCpu) where
+module _ (t : KnownTable) (g k : ℕ) (c : KnownCpuLists) (m x : KnownMachine) (so_far : RoomSoFar t g (2 ^ k) c m x) (y : KnownCpuLists) (mine : y ≡ c)
+    (n : KnownMachine) (d : KnownCpuLists) where
   does_here : (Does : Transition VisitState → Type 0) → BySteps VisitMakes t Does (visit_state x y) (visit_state n d) → BySteps VisitMakes t (AfterRoom g (2 ^ k) Does) (visit_state m c) (visit_state n d)
-  does_here Does b = so_far_does t g (2 ^ k) c m x so_far Does n d (subst (λ (e : KnownCpu). BySteps VisitMakes t Does (visit_state x e) (visit_state n d)) mine b)
+  does_here Does b = so_far_does t g (2 ^ k) c m x so_far Does n d (subst (λ (e : KnownCpuLists). BySteps VisitMakes t Does (visit_state x e) (visit_state n d)) mine b)
 
   pub so_far_takes : (head : ℕ) → TakesBlock g k head x n → d ≡ y → Makes t x (taken_steps g k head) n
       → BySteps VisitMakes t (AfterRoom g (2 ^ k) (TakesFreeBlock g k head)) (visit_state m c) (visit_state n d)
@@ -91,10 +91,10 @@ charges_refused t g k (Over over) a b by = by
 charges_refused t g k NoFrames a b by = absurd by.does.does.does.1.room
 charges_refused t g k RequesterKilled a b by = by
 
-pub over_charges : (t : KnownTable) (g k : ℕ) (r : Result ℕ AllocFault) (x : AllocFault) (m n : KnownMachine) (c d : KnownCpu) → r ≡ Err x
+pub over_charges : (t : KnownTable) (g k : ℕ) (r : Result ℕ AllocFault) (x : AllocFault) (m n : KnownMachine) (c d : KnownCpuLists) → r ≡ Err x
     → d ≡ c → BySteps VisitMakes t (IsRefusedFor g (2 ^ k) x) (visit_state m c) (visit_state n c) → BySteps VisitMakes t (ChargesBlock g k r) (visit_state m c) (visit_state n d)
 over_charges t g k r x m n c d is cpu by =
-    subst (λ (z : KnownCpu × Result ℕ AllocFault). BySteps VisitMakes t (ChargesBlock g k z.1) (visit_state m c) (visit_state n z.0)) (λ i. (sym cpu i, sym is i))
+    subst (λ (z : KnownCpuLists × Result ℕ AllocFault). BySteps VisitMakes t (ChargesBlock g k z.1) (visit_state m c) (visit_state n z.0)) (λ i. (sym cpu i, sym is i))
     (charges_refused t g k x (visit_state m c) (visit_state n c) by)
 
 abbrev fault_of : Result ℕ AllocFault → AllocFault
@@ -110,7 +110,7 @@ over_not_none g k over r x n is why none =
 
 -- ---- the list that is returned to the zone
 
-pub record BackPart (frames : List ℕ) (m : KnownMachine) (c : KnownCpu) (n : KnownMachine) (d : KnownCpu) : Type 0 where
+pub record BackPart (frames : List ℕ) (m : KnownMachine) (c : KnownCpuLists) (n : KnownMachine) (d : KnownCpuLists) : Type 0 where
   pub split : c.list ≡ frames ++ d.list
   pub number : d.number ≡ c.number
   pub fresh : d.fresh ≡ c.fresh
@@ -118,12 +118,12 @@ pub record BackPart (frames : List ℕ) (m : KnownMachine) (c : KnownCpu) (n : K
   pub ledger : n.ledger ≡ m.ledger
   pub killed : n.killed ≡ m.killed
 
-pub back_part : (frames : List ℕ) (m n : KnownMachine) (c d : KnownCpu) → UnlistsMany frames (visit_state m c) (visit_state n d) → BackPart frames m c n d
+pub back_part : (frames : List ℕ) (m n : KnownMachine) (c d : KnownCpuLists) → UnlistsMany frames (visit_state m c) (visit_state n d) → BackPart frames m c n d
 back_part [] m n c d h = record {
-  split = sym (ap (λ (e : KnownCpu). e.list) h.cpu);
-  number = ap (λ (e : KnownCpu). e.number) h.cpu;
-  fresh = ap (λ (e : KnownCpu). e.fresh) h.cpu;
-  back = ap (λ (e : KnownCpu). e.back) h.cpu;
+  split = sym (ap (λ (e : KnownCpuLists). e.list) h.cpu);
+  number = ap (λ (e : KnownCpuLists). e.number) h.cpu;
+  fresh = ap (λ (e : KnownCpuLists). e.fresh) h.cpu;
+  back = ap (λ (e : KnownCpuLists). e.back) h.cpu;
   ledger = ap (λ (z : KnownMachine). z.ledger) h.machine;
   killed = ap (λ (z : KnownMachine). z.killed) h.machine;
 }
@@ -131,10 +131,10 @@ back_part (f ∷ frames) m n c d h =
     let one = h.first in
     let more = back_part frames h.between.machine n h.between.cpu d h.rest in
     record {
-      split = one.front ∙ ap (λ (l : List ℕ). f ∷ l) (sym (ap (λ (e : KnownCpu). e.list) one.cpu) ∙ more.split);
-      number = more.number ∙ ap (λ (e : KnownCpu). e.number) one.cpu;
-      fresh = more.fresh ∙ ap (λ (e : KnownCpu). e.fresh) one.cpu;
-      back = more.back ∙ ap (λ (e : KnownCpu). e.back) one.cpu;
+      split = one.front ∙ ap (λ (l : List ℕ). f ∷ l) (sym (ap (λ (e : KnownCpuLists). e.list) one.cpu) ∙ more.split);
+      number = more.number ∙ ap (λ (e : KnownCpuLists). e.number) one.cpu;
+      fresh = more.fresh ∙ ap (λ (e : KnownCpuLists). e.fresh) one.cpu;
+      back = more.back ∙ ap (λ (e : KnownCpuLists). e.back) one.cpu;
       ledger = more.ledger ∙ ap (λ (z : KnownMachine). z.ledger) one.machine;
       killed = more.killed ∙ ap (λ (z : KnownMachine). z.killed) one.machine;
     }
@@ -169,7 +169,7 @@ none_spares t g k m n c d steps h = record {
 }
 
 -- what one try that finds no block leaves
-pub none_leaves : (t : KnownTable) (g k : ℕ) (m n : KnownMachine) (c d : KnownCpu) → TakesNoBlock g k m n → is_killed m.killed g ≡ false → has_group m.ledger.groups g ≡ true
+pub none_leaves : (t : KnownTable) (g k : ℕ) (m n : KnownMachine) (c d : KnownCpuLists) → TakesNoBlock g k m n → is_killed m.killed g ≡ false → has_group m.ledger.groups g ≡ true
     → HasRoomFor m (2 ^ k) → MayHaveBlock n g k
 none_leaves t g k m n c d none alive there fits = room_left t g k m m n (lowers_none t m) alive none there fits
 
@@ -181,7 +181,7 @@ noted_room m note g k may = record {
 }
 
 -- ---- what the second try leaves
-module _ (t : KnownTable) (g k : ℕ) (m x n : KnownMachine) (c y d : KnownCpu) (count listed : ℕ) (counts : listed ≡ length c.list) (few : count ≤ listed)
+module _ (t : KnownTable) (g k : ℕ) (m x n : KnownMachine) (c y d : KnownCpuLists) (count listed : ℕ) (counts : listed ≡ length c.list) (few : count ≤ listed)
     (gives : UnlistsMany (take count c.list) (visit_state m c) (visit_state x y)) (rest : count < listed → y.list ≡ []) (stays : d ≡ y)
     (giving : Makes t m (drain_list_steps c.number (take count c.list)) x) where
   part : BackPart (take count c.list) m c x y
@@ -191,7 +191,7 @@ module _ (t : KnownTable) (g k : ℕ) (m x n : KnownMachine) (c y d : KnownCpu) 
   whole = all_back count listed c.list y.list few counts rest part.split
 
   given : UnlistsMany c.list (visit_state m c) (visit_state x d)
-  given = subst (λ (z : List ℕ × KnownCpu). UnlistsMany z.0 (visit_state m c) (visit_state x z.1)) (λ i. (whole i, sym stays i)) gives
+  given = subst (λ (z : List ℕ × KnownCpuLists). UnlistsMany z.0 (visit_state m c) (visit_state x z.1)) (λ i. (whole i, sym stays i)) gives
 
   by_giving : Makes t m (drain_list_steps c.number c.list) x
   by_giving = subst (λ (z : List ℕ). Makes t m (drain_list_steps c.number z) x) whole giving
@@ -207,7 +207,7 @@ module _ (t : KnownTable) (g k : ℕ) (m x n : KnownMachine) (c y d : KnownCpu) 
       drained = x;
       later = b.steps;
       drains = given;
-      takes = subst (λ (z : KnownCpu). TakesOrReclaims g k r (transition t (visit_state x z) b.steps (visit_state n d))) (sym stays) b.does;
+      takes = subst (λ (z : KnownCpuLists). TakesOrReclaims g k r (transition t (visit_state x z) b.steps (visit_state n d))) (sym stays) b.does;
       steps_are = refl;
     };
     makes = then b.steps b.makes;
@@ -221,11 +221,11 @@ module _ (t : KnownTable) (g k : ℕ) (m x n : KnownMachine) (c y d : KnownCpu) 
       (record { steps = taken_steps g k head; does = inl (record { takes = takes; cpu = stays; steps_are = refl }); makes = run })
 
   -- or finds none, and rounds of reclaim follow
-  module _ (w : KnownMachine) (z : KnownCpu) (none : TakesNoBlock g k x w) (same : z ≡ y)
+  module _ (w : KnownMachine) (z : KnownCpuLists) (none : TakesNoBlock g k x w) (same : z ≡ y)
       (vain : Makes t x (unplaced_steps g k) w) where
     in_rounds : (r : Result ℕ AllocFault) → BySteps VisitMakes t (TakesInRounds g k r) (visit_state w z) (visit_state n d) → BySteps VisitMakes t (TakesOrReclaims g k r) (visit_state x y) (visit_state n d)
     in_rounds r there =
-        let rounds = subst (λ (u : KnownCpu). BySteps VisitMakes t (TakesInRounds g k r) (visit_state w u) (visit_state n d)) same there in
+        let rounds = subst (λ (u : KnownCpuLists). BySteps VisitMakes t (TakesInRounds g k r) (visit_state w u) (visit_state n d)) same there in
         record {
           steps = unplaced_steps g k ++ rounds.steps;
           does = inr (record {
@@ -245,7 +245,7 @@ module _ (t : KnownTable) (g k : ℕ) (m x n : KnownMachine) (c y d : KnownCpu) 
   pub list_shrinks : length d.list ≤ length c.list
   list_shrinks =
       let a = ap length part.split ∙ length-append (take count c.list) y.list in
-      let b = ap (λ (e : KnownCpu). length e.list) stays in
+      let b = ap (λ (e : KnownCpuLists). length e.list) stays in
       omega (arith, a, b)
 
 -- ---- the whole allocation
@@ -263,7 +263,7 @@ no_kill g k call h = elim h.takes [
   | inr rounds ↦ rounds.second
 ]
 
-module _ (t : KnownTable) (g k : ℕ) (m : KnownMachine) (c : KnownCpu) (alive : is_killed m.killed g ≡ false) where
+module _ (t : KnownTable) (g k : ℕ) (m : KnownMachine) (c : KnownCpuLists) (alive : is_killed m.killed g ≡ false) where
   by_answer : (r : Result ℕ AllocFault) (n : VisitState) → BySteps VisitMakes t (RetriesBlock g k r) (visit_state m c) n → BySteps VisitMakes t (AllocatesBlock g k r) (visit_state m c) n
   by_answer (Ok head) n b = record { steps = b.steps; does = inr (record { is = alive; does = b.does }); makes = b.makes }
   by_answer (Err NoFrames) n b = record { steps = b.steps; does = record { is = alive; does = b.does }; makes = b.makes }
@@ -271,7 +271,7 @@ module _ (t : KnownTable) (g k : ℕ) (m : KnownMachine) (c : KnownCpu) (alive :
   by_answer (Err RequesterKilled) n b = absurd (no_kill g k _ b.does.second)
 
   -- no block is free at first, and what comes of the drained list decides
-  pub decides_drained : (r : Result ℕ AllocFault) (cause : AllocFault) (x n : KnownMachine) (y d : KnownCpu) → cause ≡ NoFrames → y ≡ c
+  pub decides_drained : (r : Result ℕ AllocFault) (cause : AllocFault) (x n : KnownMachine) (y d : KnownCpuLists) → cause ≡ NoFrames → y ≡ c
       → BySteps VisitMakes t (ChargesBlock g k (Err cause)) (visit_state m c) (visit_state x y)
       → BySteps VisitMakes t (TakesAfterDrain g k r) (visit_state x y) (visit_state n d) → BySteps VisitMakes t (AllocatesBlock g k r) (visit_state m c) (visit_state n d)
   decides_drained r cause x n y d named mine charged drained =

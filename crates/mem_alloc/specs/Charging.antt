@@ -1,11 +1,34 @@
 -- How pages for single frames are charged, through the CPU's stock.
-use Rattle.std.specs.Prelude.{◌≡◌, ◌⊎◌, ℕ, Result, Ok, Err}
+use Rattle.std.specs.Prelude.{◌≡◌, ◌⊎◌, ℕ, [], false, IsTrue, Result, Ok, Err}
+use Rattle.zone_blocks.specs.Config.{IsValidConfig}
 use Rattle.zone_blocks.specs.declared.config.Config.{Config}
+use Rattle.group_tree.specs.Groups.{has_group}
+use Rattle.boot_words.specs.Tables.{KnownTable}
+use Rattle.cpu_part.specs.Cpus.{KnownCpuLists}
 use Rattle.mem_machine.specs.{KnownMachine, LacksRoom, with_run, Drains, Fills, stock_group, drain_steps, fill_steps, over_steps, HoldsPage, Makes}
+use Rattle.mem_machine.specs.{is_killed, IsDrained, IsOfSize, MayCharge, Visits}
 use Rattle.mem_machine.specs.{VisitState, Finds, InTurn, MachineStays, OfMachineAlone, Stays, Transition}
 use Rattle.mem_alloc.specs.declared.faults.AllocFault.{AllocFault}
 use Rattle.mem_alloc.specs.High.{PathHasHighRoom}
 use Rattle.mem_alloc.specs.Room.{AfterRoom, IsRefusedFor}
+
+-- What paying for a frame finds. The CPU is visited and has no fresh frame, the zone isn't too large, the sizes given
+-- are in their ranges, and the group exists and isn't killed.
+pub record MayPay (table : KnownTable) (given : Config) (group : ℕ) (machine : KnownMachine) (cpu : KnownCpuLists) : Type 0 where
+  pub visit : Visits table machine cpu
+  pub size : IsOfSize table
+  pub sizes : IsValidConfig given
+  pub there : IsTrue (has_group machine.ledger.groups group)
+  pub alive : is_killed machine.killed group ≡ false
+  pub none_fresh : cpu.fresh ≡ []
+
+-- What filling the CPU's stock with pages of the group finds. The CPU is visited and has no fresh frame, the pages may
+-- be charged, and the stock is drained.
+pub record MayFill (table : KnownTable) (group pages : ℕ) (machine : KnownMachine) (cpu : KnownCpuLists) : Type 0 where
+  pub visit : Visits table machine cpu
+  pub may_charge : MayCharge machine group pages
+  pub none_fresh : cpu.fresh ≡ []
+  pub drained : IsDrained table machine cpu.number
 
 -- the limits have room for this many pages, which are charged to the group and fill the CPU's stock
 pub record FillsStock (group pages : ℕ) (call : Transition VisitState) : Type 0 where

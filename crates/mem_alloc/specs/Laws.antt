@@ -1,6 +1,5 @@
 -- What holds of each charge that kills and of each refill, whichever function makes it.
 use Rattle.std.specs.Prelude.{◌≡◌, ℕ, ◌+◌, ◌≤◌, ◌⊎◌, true, false, Option, Some, None, List, ◌∷◌, ◌++◌, length}
-use Rattle.frame_word.specs.Seats.{KnownTable}
 use Rattle.group_tree.specs.declared.group.Group.{Group}
 use Rattle.group_tree.specs.Groups.{in_subtree}
 use Rattle.group_charge.specs.Charges.{AreCharges}
@@ -11,6 +10,7 @@ use Rattle.step_rules.specs.declared.step.Action.TheVariants.{Kill}
 use Rattle.step_rules.specs.declared.step.Answer.{Answer}
 use Rattle.step_rules.specs.declared.step.Step.{Step}
 use Rattle.step_rules.specs.After.{Run}
+use Rattle.boot_words.specs.Tables.{KnownTable}
 use Rattle.mem_machine.specs.{IsConsistent, KnownMachine, home_of, VisitState, lock_holder, local_of, AreDrained, Transition}
 use Rattle.mem_machine.specs.Local.{IsLocalRun}
 use Rattle.mem_reclaim.specs.declared.sets.Killed.{Killed}

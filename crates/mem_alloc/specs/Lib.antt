@@ -14,7 +14,7 @@ pub use Rattle.mem_alloc.specs.High.{ReclaimsHigh}
 pub use Rattle.mem_alloc.specs.Room.{AfterRoom, ClearsBelow, HasMadeRoom, IsRefusedAt, IsRefusedAtSome, IsRefusedFor, IsRoomAnswer, KillsForFewPages}
 pub use Rattle.mem_alloc.specs.Room.{MakesRoom, PreparesCharge, ReclaimsBefore, ReclaimsFor, RelievesLimit, with_limit_noted, with_max_noted_at}
 pub use Rattle.mem_alloc.specs.Charging.{ChargesAfterDrain, ChargesNoBatch, ChargesOne, DrainsStock, FillsBatch, FillsDrainedStock, FillsStock}
-pub use Rattle.mem_alloc.specs.Charging.{LacksBatch, PaysForFrame}
+pub use Rattle.mem_alloc.specs.Charging.{LacksBatch, MayFill, MayPay, PaysForFrame}
 pub use Rattle.mem_alloc.specs.Rounds.{AfterZoneNote, FailsInRounds, FreesInRound, MakesRound, SucceedsInRounds}
 pub use Rattle.mem_alloc.specs.Frames.{AllocatesFrame, FillsList, HasNoFreeFrame, LendsBatch, LendsNoFrame, MakesRefillRounds, RefillsInRounds}
 pub use Rattle.mem_alloc.specs.Frames.{RefillsList}

@@ -26,12 +26,12 @@ fn charge_block<N: BootName>(
     group: GroupId,
     order: Order,
 ) -> Result<Frame, AllocFault>
-    requires visit { Visits N.frames machine.old cpu.old }
+    requires visit { Visits N.table machine.old cpu.old }
     requires may_charge { MayCharge machine.old group (2 ^ order) }
     requires settled { IsSettled cpu.old }
-    ensures charges { VisitDoes N.frames (ChargesBlock group order result) machine.old cpu.old machine.new cpu.new }
+    ensures charges { VisitDoes N.table (ChargesBlock group order result) machine.old cpu.old machine.new cpu.new }
     ensures cpu { cpu.new ≡ cpu.old }
-    ensures visit { Visits N.frames machine.new cpu.new }
+    ensures visit { Visits N.table machine.new cpu.new }
     ensures room { result ≡ Err NoFrames → MayHaveBlock machine.new group order }
 {
     let pages = order.frames();
@@ -54,12 +54,12 @@ fn reclaim_until_taken<N: BootName>(
     group: GroupId,
     order: Order,
 ) -> Result<Frame, AllocFault>
-    requires visit { Visits N.frames machine.old cpu.old }
+    requires visit { Visits N.table machine.old cpu.old }
     requires room { MayHaveBlock machine.old group order }
     requires settled { IsSettled cpu.old }
-    ensures takes { VisitDoes N.frames (MakesTakeRounds group order result) machine.old cpu.old machine.new cpu.new }
+    ensures takes { VisitDoes N.table (MakesTakeRounds group order result) machine.old cpu.old machine.new cpu.new }
     ensures cpu { cpu.new ≡ cpu.old }
-    ensures visit { Visits N.frames machine.new cpu.new }
+    ensures visit { Visits N.table machine.new cpu.new }
 {
     let pages = order.frames();
     for round in 0..MAX_ROUNDS {
@@ -83,11 +83,11 @@ fn take_after_drain<N: BootName>(
     group: GroupId,
     order: Order,
 ) -> Result<Frame, AllocFault>
-    requires visit { Visits N.frames machine.old cpu.old }
+    requires visit { Visits N.table machine.old cpu.old }
     requires room { MayHaveBlock machine.old group order }
     requires settled { IsSettled cpu.old }
-    ensures takes { VisitDoes N.frames (TakesAfterDrain group order result) machine.old cpu.old machine.new cpu.new }
-    ensures stays { KeepsVisit N.frames cpu.old machine.new cpu.new }
+    ensures takes { VisitDoes N.table (TakesAfterDrain group order result) machine.old cpu.old machine.new cpu.new }
+    ensures stays { KeepsVisit N.table cpu.old machine.new cpu.new }
     ensures fresh { cpu.new.fresh ≡ [] }
     ensures list { length cpu.new.list ≤ length cpu.old.list }
 {
@@ -123,12 +123,12 @@ pub fn alloc_block<N: BootName>(
     group: GroupId,
     order: Order,
 ) -> Result<Frame, AllocFault>
-    requires visit { Visits N.frames machine.old cpu.old }
-    requires size { IsOfSize N.frames }
+    requires visit { Visits N.table machine.old cpu.old }
+    requires size { IsOfSize N.table }
     requires there { IsTrue (has_group machine.old.ledger.groups group) }
     requires settled { IsSettled cpu.old }
-    ensures allocates { VisitDoes N.frames (AllocatesBlock group order result) machine.old cpu.old machine.new cpu.new }
-    ensures stays { KeepsVisit N.frames cpu.old machine.new cpu.new }
+    ensures allocates { VisitDoes N.table (AllocatesBlock group order result) machine.old cpu.old machine.new cpu.new }
+    ensures stays { KeepsVisit N.table cpu.old machine.new cpu.new }
     ensures fresh { cpu.new.fresh ≡ [] }
     ensures list { length cpu.new.list ≤ length cpu.old.list }
 {

@@ -1,11 +1,8 @@
 //! Charging pages for single frames, through the CPU's stock.
 
-ghost use Rattle.std.specs.Prelude.{◌≡◌, ◌↔◌, [], IsTrue, false, true, OnOk};
-ghost use Rattle.zone_blocks.specs.Config.{IsValidConfig};
-ghost use Rattle.group_tree.specs.Groups.{has_group};
-ghost use Rattle.mem_machine.specs.{is_killed, Holds, Makes, VisitDoes, Visits, HoldsPage, IsOfSize, MayCharge};
-ghost use Rattle.mem_machine.specs.{FitsStock, IsDrained, BySteps};
-ghost use Rattle.mem_alloc.specs.Charging.{ChargesOne, FillsBatch, FillsDrainedStock, LacksBatch, PaysForFrame};
+ghost use Rattle.std.specs.Prelude.{◌≡◌, ◌↔◌, IsTrue, false, true, OnOk};
+ghost use Rattle.mem_machine.specs.{Holds, Makes, VisitDoes, Visits, HoldsPage, FitsStock, IsDrained, BySteps};
+ghost use Rattle.mem_alloc.specs.Charging.{ChargesOne, FillsBatch, FillsDrainedStock, LacksBatch, MayFill, MayPay, PaysForFrame};
 
 use crate::faults::AllocFault;
 use crate::high::{path_has_high_room, reclaim_high};
@@ -23,8 +20,8 @@ fn holds_page<N: BootName>(
     cpu: &CpuLists<N>,
     group: GroupId,
 ) -> bool
-    requires holds { Holds N.frames machine.old cpu.now }
-    ensures holds { IsTrue result ↔ HoldsPage N.frames machine.old cpu.now.number group }
+    requires holds { Holds N.table machine.old cpu.now }
+    ensures holds { IsTrue result ↔ HoldsPage N.table machine.old cpu.now.number group }
     ensures machine { machine.new ≡ machine.old }
 {
     let number = group.number();
@@ -42,12 +39,9 @@ fn fill_one<N: BootName>(
     cpu: &CpuLists<N>,
     group: GroupId,
 ) -> Result<(), AllocFault>
-    requires visit { Visits N.frames machine.old cpu.now }
-    requires may_charge { MayCharge machine.old group 1 }
-    requires none_fresh { cpu.now.fresh ≡ [] }
-    requires drained { IsDrained N.frames machine.old cpu.now.number }
-    ensures charges { VisitDoes N.frames (ChargesOne group result) machine.old cpu.now machine.new cpu.now }
-    ensures visit { Visits N.frames machine.new cpu.now }
+    requires { MayFill N.table group 1 machine.old cpu.now }
+    ensures charges { VisitDoes N.table (ChargesOne group result) machine.old cpu.now machine.new cpu.now }
+    ensures visit { Visits N.table machine.new cpu.now }
 {
     reclaim_high(machine, tables, group, 1);
     'tries: loop {
@@ -67,16 +61,13 @@ fn fill_batch<N: BootName>(
     group: GroupId,
     pages: u32,
 ) -> bool
-    requires visit { Visits N.frames machine.old cpu.now }
-    requires may_charge { MayCharge machine.old group pages }
+    requires may_fill { MayFill N.table group pages machine.old cpu.now }
     requires pages { FitsStock pages }
-    requires none_fresh { cpu.now.fresh ≡ [] }
-    requires drained { IsDrained N.frames machine.old cpu.now.number }
     ensures fills { result ≡ true
-        → VisitDoes N.frames (FillsBatch group pages) machine.old cpu.now machine.new cpu.now }
-    ensures lacks { result ≡ false → BySteps Makes N.frames (LacksBatch group pages) machine.old machine.new }
-    ensures visit { Visits N.frames machine.new cpu.now }
-    ensures drained { result ≡ false → IsDrained N.frames machine.new cpu.now.number }
+        → VisitDoes N.table (FillsBatch group pages) machine.old cpu.now machine.new cpu.now }
+    ensures lacks { result ≡ false → BySteps Makes N.table (LacksBatch group pages) machine.old machine.new }
+    ensures visit { Visits N.table machine.new cpu.now }
+    ensures drained { result ≡ false → IsDrained N.table machine.new cpu.now.number }
 {
     if !path_has_high_room(machine.charges(), group, pages) {
         return false;
@@ -96,16 +87,11 @@ fn fill_drained_stock<N: BootName>(
     sizes: Config,
     group: GroupId,
 ) -> Result<(), AllocFault>
-    requires visit { Visits N.frames machine.old cpu.now }
-    requires size { IsOfSize N.frames }
-    requires sizes { IsValidConfig sizes }
-    requires there { IsTrue (has_group machine.old.ledger.groups group) }
-    requires alive { is_killed machine.old.killed group ≡ false }
-    requires none_fresh { cpu.now.fresh ≡ [] }
-    requires drained { IsDrained N.frames machine.old cpu.now.number }
-    ensures charges { VisitDoes N.frames (FillsDrainedStock sizes group result)
+    requires may_pay { MayPay N.table sizes group machine.old cpu.now }
+    requires drained { IsDrained N.table machine.old cpu.now.number }
+    ensures charges { VisitDoes N.table (FillsDrainedStock sizes group result)
         machine.old cpu.now machine.new cpu.now }
-    ensures visit { Visits N.frames machine.new cpu.now }
+    ensures visit { Visits N.table machine.new cpu.now }
 {
     machine.prove_room();
     if fill_batch(machine, tables, cpu, group, sizes.stock) {
@@ -122,15 +108,10 @@ pub(crate) fn pay_for_frame<N: BootName>(
     sizes: Config,
     group: GroupId,
 ) -> Result<(), AllocFault>
-    requires visit { Visits N.frames machine.old cpu.now }
-    requires size { IsOfSize N.frames }
-    requires sizes { IsValidConfig sizes }
-    requires there { IsTrue (has_group machine.old.ledger.groups group) }
-    requires alive { is_killed machine.old.killed group ≡ false }
-    requires none_fresh { cpu.now.fresh ≡ [] }
-    ensures pays { VisitDoes N.frames (PaysForFrame sizes group result) machine.old cpu.now machine.new cpu.now }
-    ensures visit { Visits N.frames machine.new cpu.now }
-    ensures page { OnOk result (HoldsPage N.frames machine.new cpu.now.number group) }
+    requires { MayPay N.table sizes group machine.old cpu.now }
+    ensures pays { VisitDoes N.table (PaysForFrame sizes group result) machine.old cpu.now machine.new cpu.now }
+    ensures visit { Visits N.table machine.new cpu.now }
+    ensures page { OnOk result (HoldsPage N.table machine.new cpu.now.number group) }
 {
     if holds_page(machine, tables, cpu, group) {
         return Ok(());

@@ -26,13 +26,13 @@ fn make_refill_rounds<N: BootName>(
     cpu: &mut CpuLists<N>,
     batch: u32,
 ) -> bool
-    requires visit { Visits N.frames machine.old cpu.old }
+    requires visit { Visits N.table machine.old cpu.old }
     requires room { HasListRoom cpu.old batch }
     requires some { 1 ≤ batch }
     requires none_fresh { cpu.old.fresh ≡ [] }
-    ensures refills { VisitDoes N.frames (MakesRefillRounds batch result) machine.old cpu.old machine.new cpu.new }
-    ensures visit { Visits N.frames machine.new cpu.new }
-    ensures stock { stock_now N.frames machine.new cpu.new.number ≡ stock_now N.frames machine.old cpu.old.number }
+    ensures refills { VisitDoes N.table (MakesRefillRounds batch result) machine.old cpu.old machine.new cpu.new }
+    ensures visit { Visits N.table machine.new cpu.new }
+    ensures stock { stock_now N.table machine.new cpu.new.number ≡ stock_now N.table machine.old cpu.old.number }
 {
     for round in 0..MAX_ROUNDS {
         let freed = reclaim_anywhere(machine, tables, round + 1, 1);
@@ -54,13 +54,13 @@ fn refill_in_rounds<N: BootName>(
     cpu: &mut CpuLists<N>,
     batch: u32,
 ) -> bool
-    requires visit { Visits N.frames machine.old cpu.old }
+    requires visit { Visits N.table machine.old cpu.old }
     requires room { HasListRoom cpu.old batch }
     requires some { 1 ≤ batch }
     requires none_fresh { cpu.old.fresh ≡ [] }
-    ensures refills { VisitDoes N.frames (RefillsInRounds batch result) machine.old cpu.old machine.new cpu.new }
-    ensures visit { Visits N.frames machine.new cpu.new }
-    ensures stock { stock_now N.frames machine.new cpu.new.number ≡ stock_now N.frames machine.old cpu.old.number }
+    ensures refills { VisitDoes N.table (RefillsInRounds batch result) machine.old cpu.old machine.new cpu.new }
+    ensures visit { Visits N.table machine.new cpu.new }
+    ensures stock { stock_now N.table machine.new cpu.new.number ≡ stock_now N.table machine.old cpu.old.number }
 {
     machine.note(Note::Zone { order: 0 });
     make_refill_rounds(machine, tables, cpu, batch)
@@ -75,13 +75,13 @@ fn fill_list<N: BootName>(
     sizes: Config,
     group: GroupId,
 ) -> Result<(), AllocFault>
-    requires visit { Visits N.frames machine.old cpu.old }
+    requires visit { Visits N.table machine.old cpu.old }
     requires sizes { IsValidConfig sizes }
     requires none_fresh { cpu.old.fresh ≡ [] }
-    requires page { HoldsPage N.frames machine.old cpu.old.number group }
-    ensures fills { VisitDoes N.frames (FillsList sizes result) machine.old cpu.old machine.new cpu.new }
-    ensures visit { Visits N.frames machine.new cpu.new }
-    ensures page { OnOk result (HoldsPage N.frames machine.new cpu.new.number group) }
+    requires page { HoldsPage N.table machine.old cpu.old.number group }
+    ensures fills { VisitDoes N.table (FillsList sizes result) machine.old cpu.old machine.new cpu.new }
+    ensures visit { Visits N.table machine.new cpu.new }
+    ensures page { OnOk result (HoldsPage N.table machine.new cpu.new.number group) }
     ensures front { OnOk result (1 ≤ length cpu.new.list) }
 {
     if cpu.list_len() > 0 {
@@ -116,17 +116,17 @@ pub fn alloc_frame<N: BootName>(
     sizes: Config,
     group: GroupId,
 ) -> Result<Frame, AllocFault>
-    requires visit { Visits N.frames machine.old cpu.old }
-    requires size { IsOfSize N.frames }
+    requires visit { Visits N.table machine.old cpu.old }
+    requires size { IsOfSize N.table }
     requires sizes { IsValidConfig sizes }
     requires there { IsTrue (has_group machine.old.ledger.groups group) }
     requires settled { IsSettled cpu.old }
-    ensures allocates { VisitDoes N.frames (AllocatesFrame sizes group result) machine.old cpu.old machine.new cpu.new }
-    ensures stays { KeepsVisit N.frames cpu.old machine.new cpu.new }
+    ensures allocates { VisitDoes N.table (AllocatesFrame sizes group result) machine.old cpu.old machine.new cpu.new }
+    ensures stays { KeepsVisit N.table cpu.old machine.new cpu.new }
     ensures fresh { MatchResult result (λ f. cpu.new.fresh ≡ f ∷ []) (λ cause. cpu.new.fresh ≡ []) }
     ensures at_most_high { length cpu.old.list + length cpu.old.fresh ≤ sizes.high
         → length cpu.new.list + length cpu.new.fresh ≤ sizes.high }
-    ensures frame { IfOk result (λ f. f < N.frames.frames) }
+    ensures frame { IfOk result (λ f. f < N.table.frames) }
 {
     if machine.is_killed(group) {
         return Err(AllocFault::RequesterKilled);

@@ -50,10 +50,10 @@ fn keep_to_high<N: BootName>(
     need: u32,
 )
     requires there { IsTrue (has_group machine.old.ledger.groups group) }
-    requires held { IsHeld N.frames machine.old.run.past }
-    ensures high { BySteps Makes N.frames (KeepsToHigh (high_of machine.old.ledger group) group need)
+    requires held { IsHeld N.table machine.old.run.past }
+    ensures high { BySteps Makes N.table (KeepsToHigh (high_of machine.old.ledger group) group need)
         machine.old machine.new }
-    ensures keeps { Keeps N.frames machine.old machine.new }
+    ensures keeps { Keeps N.table machine.old machine.new }
 {
     let Some(high) = machine.charges().settings(group).high else {
         return;
@@ -82,9 +82,9 @@ fn keep_path_to_high<N: BootName>(
     need: u32,
 )
     requires there { IsTrue (has_group machine.old.ledger.groups group) }
-    requires held { IsHeld N.frames machine.old.run.past }
-    ensures high { BySteps Makes N.frames (ReclaimsHigh group need) machine.old machine.new }
-    ensures keeps { Keeps N.frames machine.old machine.new }
+    requires held { IsHeld N.table machine.old.run.past }
+    ensures high { BySteps Makes N.table (ReclaimsHigh group need) machine.old machine.new }
+    ensures keeps { Keeps N.table machine.old machine.new }
 {
     let mut next = Some(group);
     while let Some(above) = next {
@@ -104,9 +104,9 @@ pub(crate) fn reclaim_high<N: BootName>(
     need: u32,
 )
     requires there { IsTrue (has_group machine.old.ledger.groups group) }
-    requires held { IsHeld N.frames machine.old.run.past }
-    ensures high { BySteps Makes N.frames (ReclaimsHigh group need) machine.old machine.new }
-    ensures keeps { Keeps N.frames machine.old machine.new }
+    requires held { IsHeld N.table machine.old.run.past }
+    ensures high { BySteps Makes N.table (ReclaimsHigh group need) machine.old machine.new }
+    ensures keeps { Keeps N.table machine.old machine.new }
 {
     let charges = machine.charges();
     let _tree = charges.tree(); // Called for its contract.

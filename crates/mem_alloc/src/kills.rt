@@ -61,9 +61,9 @@ pub fn kill_for<N: BootName>(
     pages: u32,
 )
     requires there { IsTrue (has_group machine.old.ledger.groups limited) }
-    requires held { IsHeld N.frames machine.old.run.past }
-    ensures kills { BySteps Makes N.frames (KillsForRoom requester limited pages) machine.old machine.new }
-    ensures visit { StaysVisited N.frames machine.old machine.new }
+    requires held { IsHeld N.table machine.old.run.past }
+    ensures kills { BySteps Makes N.table (KillsForRoom requester limited pages) machine.old machine.new }
+    ensures visit { StaysVisited N.table machine.old machine.new }
 {
     if has_room_at(machine.charges(), limited, pages) {
         return;
@@ -92,9 +92,9 @@ pub(crate) fn kill_for_few_pages<N: BootName>(
     pages: u32,
 )
     requires there { IsTrue (has_group machine.old.ledger.groups limited) }
-    requires held { IsHeld N.frames machine.old.run.past }
-    ensures kills { BySteps Makes N.frames (KillsForFewPages requester limited pages) machine.old machine.new }
-    ensures visit { StaysVisited N.frames machine.old machine.new }
+    requires held { IsHeld N.table machine.old.run.past }
+    ensures kills { BySteps Makes N.table (KillsForFewPages requester limited pages) machine.old machine.new }
+    ensures visit { StaysVisited N.table machine.old machine.new }
 {
     if pages <= MAX_KILLED_FOR {
         kill_for(machine, tables, Some(requester), limited, pages);

@@ -18,10 +18,10 @@ pub(crate) fn reclaim_anywhere<N: BootName>(
     number: u32,
     want: u64,
 ) -> u64
-    requires held { IsHeld N.frames machine.old.run.past }
-    ensures reclaims { FreesBySteps N.frames result machine.old machine.new (ReclaimsRound 0 number want) }
+    requires held { IsHeld N.table machine.old.run.past }
+    ensures reclaims { FreesBySteps N.table result machine.old machine.new (ReclaimsRound 0 number want) }
     ensures missed { result < want → MissedAll 0 machine.old machine.new }
-    ensures keeps { Keeps N.frames machine.old machine.new }
+    ensures keeps { Keeps N.table machine.old machine.new }
 {
     prove_charges(machine.charges());
     reclaim_round(machine, tables, GroupId::root(), number, want).pages

@@ -23,9 +23,9 @@ fn reclaim_for<N: BootName>(
     pages: u32,
 )
     requires there { IsTrue (has_group machine.old.ledger.groups limited) }
-    requires held { IsHeld N.frames machine.old.run.past }
-    ensures reclaims { BySteps Makes N.frames (ReclaimsFor limited pages) machine.old machine.new }
-    ensures visit { StaysVisited N.frames machine.old machine.new }
+    requires held { IsHeld N.table machine.old.run.past }
+    ensures reclaims { BySteps Makes N.table (ReclaimsFor limited pages) machine.old machine.new }
+    ensures visit { StaysVisited N.table machine.old machine.new }
 {
     if let Some(limit) = machine.charges().max(limited) {
         reclaim_to_limit(machine, tables, limited, pages, limit);
@@ -68,9 +68,9 @@ pub(crate) fn make_room<N: BootName>(
     pages: u32,
 ) -> Result<(), AllocFault>
     requires there { IsTrue (has_group machine.old.ledger.groups limited) }
-    requires held { IsHeld N.frames machine.old.run.past }
-    ensures relieves { BySteps Makes N.frames (RelievesLimit requester limited pages) machine.old machine.new }
-    ensures visit { StaysVisited N.frames machine.old machine.new }
+    requires held { IsHeld N.table machine.old.run.past }
+    ensures relieves { BySteps Makes N.table (RelievesLimit requester limited pages) machine.old machine.new }
+    ensures visit { StaysVisited N.table machine.old machine.new }
     ensures room { IsRoomAnswer requester limited pages result machine.new }
     ensures below { limited < most_groups }
 {

@@ -5,7 +5,7 @@ use Rattle.std.proofs.lemmas.Bool.{cases_eq, cond-true, eqb-true, true≢false}
 use Rattle.group_tree.specs.declared.event.EventKey.{EventKey}
 use Rattle.group_tree.specs.declared.group.Group.{Group}
 use Rattle.group_tree.specs.{EventCounts, is_same_key, no_events, count_of, with_one_more, one_more, has_group, in_subtree, initial_groups}
-use Rattle.group_tree.specs.{without_group}
+use Rattle.group_tree.specs.{without_group, is_in_subtree}
 use Rattle.group_tree.proofs.EventLemmas.{counted, none_counted}
 use Rattle.group_tree.proofs.GroupLemmas.{has_group-any}
 use Rattle.group_tree.proofs.CallerLemmas.{has_group-with, has_group-limited, has_group-flagged, has_group-without}
@@ -14,7 +14,7 @@ use Rattle.step_rules.specs.declared.step.Action.{Action}
 use Rattle.step_rules.specs.declared.step.Action.TheVariants.{Lock, SetMax, SetFlag, Make, Remove}
 use Rattle.step_rules.specs.declared.step.Answer.{Answer}
 use Rattle.step_rules.specs.declared.step.Answer.TheVariants.{Illegal, Done, Number}
-use Rattle.step_rules.specs.{Zone, is_in_subtree, Allows, is_of_group, Run, after, state_of, IsLegalRun, pushed, IsPeak, peak_follows, event_of}
+use Rattle.step_rules.specs.{Zone, Allows, is_of_group, Run, after, state_of, IsLegalRun, pushed, IsPeak, peak_follows, event_of}
 use Rattle.step_rules.specs.{group_noted, noted_at, is_noted_in_subtree, is_noted_at, makes_group, count_after, events_in, events_local_in}
 use Rattle.step_rules.specs.State.{State}
 use Rattle.step_rules.proofs.Moving.{gone_itself}

@@ -6,6 +6,7 @@ use Rattle.std.proofs.lemmas.Bool.{cases_eq, cases_lt, cond-false, cond-true, ne
 use Rattle.std.proofs.lemmas.List.{length-set, length-replicate}
 use Rattle.group_tree.specs.declared.group.Group.{Group}
 use Rattle.group_tree.specs.Groups.{in_subtree}
+use Rattle.group_tree.specs.{is_in_subtree}
 use Rattle.step_rules.specs.declared.phase.Way.TheVariants.{PassingOut, PassingBack}
 use Rattle.step_rules.specs.declared.phase.Stage.{Stage}
 use Rattle.step_rules.specs.declared.phase.Stage.TheVariants.{FreshPassing, BackPassing}
@@ -13,7 +14,7 @@ use Rattle.step_rules.specs.declared.phase.Phase.{Phase}
 use Rattle.step_rules.specs.declared.phase.Phase.TheVariants.{InZone, Lent, Head}
 use Rattle.step_rules.specs.Phases.{is_passing, is_stage_passing, keeper_of, passes_out, passes_back, stage_passes_back}
 use Rattle.step_rules.specs.State.{all_to, one_if, sum_to, with_at}
-use Rattle.step_rules.specs.Usage.{frames_kept, is_in_subtree}
+use Rattle.step_rules.specs.Usage.{frames_kept}
 use Rattle.step_rules.proofs.Basics.{at_same, at_other, at_each, at_through}
 use Rattle.step_rules.proofs.Sums.{sum_same, sum_none, sum_part, sum_change, sum_swap, sum_only}
 use Rattle.mem_core.specs.Counted.{IsTally, class_in, class_of, class_size, keeper_class, moved_sizes, stage_transit_cpu, transit_class}

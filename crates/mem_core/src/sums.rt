@@ -2,8 +2,8 @@
 //! change, and seats and groups at each call.
 
 ghost use Rattle.std.specs.Prelude.{◌≡◌, ◌+◌, ◌*◌, ◌^◌, ◌<◌, ◌≤◌, ℕ, length, IfNone, IfSome, IsTrue, true, if◌then◌else◌};
-ghost use Rattle.group_tree.specs.{has_group, in_subtree, has_room, PathHasRoom, IsLowestOver};
-ghost use Rattle.step_rules.specs.{live_references, pins_of, is_in_subtree, frames_kept, stock_in_subtree};
+ghost use Rattle.group_tree.specs.{has_group, in_subtree, has_room, PathHasRoom, IsLowestOver, is_in_subtree};
+ghost use Rattle.step_rules.specs.{live_references, pins_of, frames_kept, stock_in_subtree};
 ghost use Rattle.step_rules.specs.{pages_prepaid, pages_pending, usage_of, is_of_group, rests, nothing_passes};
 ghost use Rattle.step_rules.specs.{no_frame_passes, no_page_pends};
 ghost use Rattle.mem_core.specs.Rows.{state_in};

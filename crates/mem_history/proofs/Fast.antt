@@ -8,13 +8,12 @@ use Rattle.step_rules.specs.declared.step.Action.{Action}
 use Rattle.step_rules.specs.declared.step.Action.TheVariants.{Get, Put, Consume, Credit}
 use Rattle.step_rules.specs.declared.step.Answer.{Answer}
 use Rattle.step_rules.specs.State.{State}
-use Rattle.step_rules.specs.{is_unheld, Run, state_of, pushed}
+use Rattle.step_rules.specs.{is_unheld, Run, state_of, pushed, cpu_makes}
 use Rattle.step_rules.proofs.Runs.{state_more}
-use Rattle.boot_words.specs.{hide, IsFast}
+use Rattle.boot_words.specs.{hide, IsFast, zone_of_boot}
 use Rattle.boot_words.proofs.Hiding.{fast_is_hidden}
 use Rattle.boot_words.proofs.Holding.{allowed_at}
-use Rattle.mem_machine.specs.{AgreesWithRun, KnownMachine, left_by, zone_of}
-use Rattle.mem_machine.specs.Steps.{cpu_makes}
+use Rattle.mem_machine.specs.{AgreesWithRun, KnownMachine, left_by}
 use Rattle.mem_machine.proofs.Followed.{is_still}
 use Rattle.mem_history.specs.Whole.{FastLinesFollow}
 use Rattle.mem_history.proofs.Agreeing.{tells_still}
@@ -29,7 +28,7 @@ fast_still action answer fast = absurd fast
 
 pub fast_lines_follow : FastLinesFollow
 fast_lines_follow t run cpus k before action answer later shows serves legal =
-    let zone = zone_of t in
+    let zone = zone_of_boot t in
     let m = before.machine in let n = later.machine in
     let c = before.cpu in let d = later.cpu in
     let p = c.number in

@@ -5,10 +5,10 @@ use Rattle.std.specs.List.{range_with_len, slice_get, slice_index_or}
 use Rattle.std.specs.Option.{option_map_or}
 use Rattle.std.proofs.lemmas.Bool.{cases_lt, cases_Bool, true≢false, and_from, and_left, and_right, le-leb, leb-true, cond-true, cond-false}
 use Rattle.std.proofs.lemmas.Option.{slice_get_past}
-use Rattle.frame_word.specs.Seats.{KnownTable}
 use Rattle.group_charge.specs.Charges.{AreCharges}
 use Rattle.zone_blocks.specs.Areas.{AreMaximalBlocks}
-use Rattle.cpu_part.specs.Cpus.{KnownCpu}
+use Rattle.boot_words.specs.{zone_of_boot, KnownTable}
+use Rattle.cpu_part.specs.Cpus.{KnownCpuLists}
 use Rattle.step_rules.specs.declared.phase.ChargedUnit.{ChargedUnit}
 use Rattle.step_rules.specs.declared.phase.Stage.{Stage}
 use Rattle.step_rules.specs.declared.phase.Way.{Way}
@@ -18,7 +18,7 @@ use Rattle.step_rules.specs.declared.phase.Phase.{Phase}
 use Rattle.step_rules.specs.declared.phase.Phase.TheVariants as phase
 use Rattle.step_rules.specs.Phases.{ListFrame, FreshFrame, has_as, keeper_of}
 use Rattle.step_rules.specs.Phases as phases
-use Rattle.step_rules.specs.{Zone, Part, Stock, one_if, is_cpu, free_in, times, Run, state_of, lent_to, IsShown, other_part_seen, PhasePaid}
+use Rattle.step_rules.specs.{Zone, Part, PartStock, one_if, is_cpu, free_in, times, Run, state_of, lent_to, IsShown, other_part_seen, PhasePaid}
 use Rattle.step_rules.specs.{groups_in, KeepsInvariant}
 use Rattle.step_rules.specs.State.{State}
 use Rattle.step_rules.proofs.PhaseLemmas.{listed_is, fresh_is}
@@ -28,7 +28,7 @@ use Rattle.step_rules.proofs.Promising.{the_promise_is_kept}
 use Rattle.mem_machine.specs.declared.frame_state.FrameState.{FrameState}
 use Rattle.mem_machine.specs.declared.frame_state.FrameState.TheVariants.{Free, Lent, Head, Tail}
 use Rattle.mem_machine.specs.FrameStates as frame_states
-use Rattle.mem_machine.specs.{frame_state_at, free_of, phase_hidden, KnownMachine, IsConsistent, left_by, part_at, stock_group, zone_of}
+use Rattle.mem_machine.specs.{frame_state_at, free_of, phase_hidden, KnownMachine, IsConsistent, left_by, part_at, stock_group}
 use Rattle.step_rules.proofs.Runs.{sound_run}
 use Rattle.boot_words.specs.Hidden.{hide_phase}
 use Rattle.mem_history.specs.{ShowsAll, TheWholeIsPromised, list_by, fresh_frames_by, keeper_by, stock_by, shown_of}
@@ -95,10 +95,10 @@ any_head_plain (Lent r) u stage e = cc
 any_head_plain (Head unit) u stage e = cc
 any_head_plain (Tail g) u stage e = cc
 
-module _ (t : KnownTable) (run : Run) (m : KnownMachine) (cpus : List KnownCpu) (shows : ShowsAll t run m cpus)
+module _ (t : KnownTable) (run : Run) (m : KnownMachine) (cpus : List KnownCpuLists) (shows : ShowsAll t run m cpus)
     (is : IsConsistent t m) (charges : AreCharges m.ledger) where
   abbrev zone : Zone
-  zone = zone_of t
+  zone = zone_of_boot t
 
   abbrev whole : State
   whole = state_of zone run
@@ -141,9 +141,9 @@ module _ (t : KnownTable) (run : Run) (m : KnownMachine) (cpus : List KnownCpu) 
   list_is (suc k) = elim (cases_lt k (length cpus)) [
     | inl inside ↦
         let part = there cpus k inside in
-        ap (λ o. option_map_or (λ (c : KnownCpu). c.list) o []) part.1 ∙ sym (shows.each k part.0 part.1).own.list
+        ap (λ o. option_map_or (λ (c : KnownCpuLists). c.list) o []) part.1 ∙ sym (shows.each k part.0 part.1).own.list
         ∙ ap (λ (q : ℕ). (whole.parts q).list) (shows.each k part.0 part.1).number
-    | inr past ↦ ap (λ o. option_map_or (λ (c : KnownCpu). c.list) o []) (slice_get_past cpus k past) ∙ sym (nobody_listed (suc k) (past_no k past))
+    | inr past ↦ ap (λ o. option_map_or (λ (c : KnownCpuLists). c.list) o []) (slice_get_past cpus k past) ∙ sym (nobody_listed (suc k) (past_no k past))
   ]
 
   fresh_is_by : (p : ℕ) → fresh_frames_by cpus p ≡ (whole.parts p).fresh
@@ -151,9 +151,9 @@ module _ (t : KnownTable) (run : Run) (m : KnownMachine) (cpus : List KnownCpu) 
   fresh_is_by (suc k) = elim (cases_lt k (length cpus)) [
     | inl inside ↦
         let part = there cpus k inside in
-        ap (λ o. option_map_or (λ (c : KnownCpu). c.fresh) o []) part.1 ∙ sym (shows.each k part.0 part.1).own.fresh
+        ap (λ o. option_map_or (λ (c : KnownCpuLists). c.fresh) o []) part.1 ∙ sym (shows.each k part.0 part.1).own.fresh
         ∙ ap (λ (q : ℕ). (whole.parts q).fresh) (shows.each k part.0 part.1).number
-    | inr past ↦ ap (λ o. option_map_or (λ (c : KnownCpu). c.fresh) o []) (slice_get_past cpus k past) ∙ sym (nobody_fresh (suc k) (past_no k past))
+    | inr past ↦ ap (λ o. option_map_or (λ (c : KnownCpuLists). c.fresh) o []) (slice_get_past cpus k past) ∙ sym (nobody_fresh (suc k) (past_no k past))
   ]
 
   part_left : (p : ℕ) → (left_by t m.run.past).parts p ≡ other_part_seen (whole.parts p)
@@ -188,7 +188,7 @@ module _ (t : KnownTable) (run : Run) (m : KnownMachine) (cpus : List KnownCpu) 
       let paid : PhasePaid whole.zone.cpus (groups_in whole.parts) (phase.Head u (FreshAt q)) =
       subst (PhasePaid whole.zone.cpus (groups_in whole.parts)) e (sound.frames f).paid in
       ap (keeper_by t m cpus f) (any_lent_plain x q OnList same) ∙ lent_keeper f q true (ap (has_as FreshFrame q) e ∙ eq-eqb q q refl)
-      ∙ ap (λ (s : Stock). s.group) (stock_is q) ∙ paid.group
+      ∙ ap (λ (s : PartStock). s.group) (stock_is q) ∙ paid.group
   keeper_is f x (phase.Head u (BackAt q)) e same = ap (keeper_by t m cpus f) (any_head_plain x u Live same)
   keeper_is f x (phase.Head u stage) e same = ap (keeper_by t m cpus f) (any_head_plain x u stage same)
 
@@ -218,4 +218,4 @@ module _ (t : KnownTable) (run : Run) (m : KnownMachine) (cpus : List KnownCpu) 
 
 pub the_whole_is_promised : TheWholeIsPromised
 the_whole_is_promised t run m cpus shows is charges =
-    the_promise_is_kept (zone_of t) run (shown_of t m cpus) shows.legal shows.free (is_shown t run m cpus shows is charges)
+    the_promise_is_kept (zone_of_boot t) run (shown_of t m cpus) shows.legal shows.free (is_shown t run m cpus shows is charges)

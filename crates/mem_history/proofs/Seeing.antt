@@ -1,15 +1,14 @@
 -- What the CPU that has taken the lock sees is what the run shows it. Serves `the_holder_is_shown`, `lines_follow`.
 use Rattle.std.proofs.Common.{◌≡◌, ℕ, ◌+◌, List, length, sym, ◌∙◌, ap, subst, arith}
-use Rattle.frame_word.specs.Seats.{KnownTable}
-use Rattle.cpu_part.specs.{KnownCpu, HasOwn}
+use Rattle.cpu_part.specs.{KnownCpuLists, HasOwn}
 use Rattle.cpu_part.proofs.Owning.{own_unseen}
 use Rattle.step_rules.specs.declared.phase.Hold.{Hold}
 use Rattle.step_rules.specs.declared.phase.Hold.TheVariants.{HeldBy}
 use Rattle.step_rules.specs.{Part, Zone, Run, state_of, IsLegalRun, other_part_seen, seen_by}
 use Rattle.step_rules.specs.State.{State}
-use Rattle.boot_words.specs.{hide, show_own, cpu_past}
+use Rattle.boot_words.specs.{hide, show_own, cpu_past, zone_of_boot, KnownTable}
 use Rattle.boot_words.proofs.Showing.{holder_sees_both}
-use Rattle.mem_machine.specs.{KnownMachine, VisitState, left_by, local_of, zone_of}
+use Rattle.mem_machine.specs.{KnownMachine, VisitState, left_by, local_of}
 use Rattle.mem_history.specs.Whole.{HasTakenLock, LeavesState}
 
 -- two parts with the same lists that look the same to others
@@ -29,7 +28,7 @@ part_same x y same list fresh back =
     }
 
 -- after two legal runs a CPU sees the same if it has the same, and all else is the same
-pub sees_same : (zone : Zone) (run other : Run) (c : KnownCpu) → IsLegalRun zone run → IsLegalRun zone other
+pub sees_same : (zone : Zone) (run other : Run) (c : KnownCpuLists) → IsLegalRun zone run → IsLegalRun zone other
     → hide (state_of zone run) ≡ hide (state_of zone other) → HasOwn (state_of zone run) c → HasOwn (state_of zone other) c
     → seen_by c.number (state_of zone run) ≡ seen_by c.number (state_of zone other)
 sees_same zone run other c legal legal_other same own own_other =
@@ -43,30 +42,30 @@ sees_same zone run other c legal legal_other same own own_other =
 pub leaves : (t : KnownTable) (m : KnownMachine) (s : State) (hold : Hold) → left_by t m.run.past ≡ hide s → LeavesState t m (record s { hold = hold })
 leaves t m s hold left = ap (λ (x : State). record x { hold = (left_by t m.run.past).hold }) left
 
-module _ (t : KnownTable) (run : Run) (cpus : List KnownCpu) (k : ℕ) (now : VisitState) (taken : HasTakenLock t cpus k now)
-    (legal : IsLegalRun (zone_of t) run) where
+module _ (t : KnownTable) (run : Run) (cpus : List KnownCpuLists) (k : ℕ) (now : VisitState) (taken : HasTakenLock t cpus k now)
+    (legal : IsLegalRun (zone_of_boot t) run) where
   abbrev m : KnownMachine
   m = now.machine
 
-  abbrev c : KnownCpu
+  abbrev c : KnownCpuLists
   c = now.cpu
 
   -- what the holder's past left, whole
   abbrev seen : State
-  seen = state_of (zone_of t) (cpu_past now.machine.run.past).seen
+  seen = state_of (zone_of_boot t) (cpu_past now.machine.run.past).seen
 
-  left_is : left_by t now.machine.run.past ≡ hide (state_of (zone_of t) (cpu_past now.machine.run.past).seen)
-  left_is = ap (λ (r : Run). hide (state_of (zone_of t) r)) taken.holds.held.holds.same
+  left_is : left_by t now.machine.run.past ≡ hide (state_of (zone_of_boot t) (cpu_past now.machine.run.past).seen)
+  left_is = ap (λ (r : Run). hide (state_of (zone_of_boot t) r)) taken.holds.held.holds.same
 
-  local_is : local_of t now.machine ≡ seen_by now.cpu.number (state_of (zone_of t) (cpu_past now.machine.run.past).seen)
+  local_is : local_of t now.machine ≡ seen_by now.cpu.number (state_of (zone_of_boot t) (cpu_past now.machine.run.past).seen)
   local_is = ap (λ (q : ℕ). seen_by q seen) taken.holds.who
 
   -- the run that shows the whole left the CPU's lists, and what the machine's past left; then the CPU sees the same
-  pub sees_whole : LeavesState t now.machine (state_of (zone_of t) run) → HasOwn (state_of (zone_of t) run) now.cpu
-      → state_of (zone_of t) run ≡ record (state_of (zone_of t) run) { hold = HeldBy now.cpu.number }
-      → local_of t now.machine ≡ seen_by now.cpu.number (state_of (zone_of t) run)
+  pub sees_whole : LeavesState t now.machine (state_of (zone_of_boot t) run) → HasOwn (state_of (zone_of_boot t) run) now.cpu
+      → state_of (zone_of_boot t) run ≡ record (state_of (zone_of_boot t) run) { hold = HeldBy now.cpu.number }
+      → local_of t now.machine ≡ seen_by now.cpu.number (state_of (zone_of_boot t) run)
   sees_whole left own held =
-      let zone = zone_of t in
+      let zone = zone_of_boot t in
       let hold : (left_by t m.run.past).hold ≡ HeldBy c.number = ap (λ (x : State). x.hold) left_is ∙ ap (λ (x : State). x.hold) (sym local_is) ∙ taken.shut in
       let same : hide seen ≡ hide (state_of zone run) = sym left_is ∙ left ∙ ap (λ (h : Hold). record (hide (state_of zone run)) { hold = h }) hold ∙ ap hide (sym held) in
       local_is ∙ sees_same zone (cpu_past m.run.past).seen run c taken.holds.held.holds.shows.legal legal same

@@ -5,23 +5,21 @@ use Rattle.std.specs.List.{slice_get}
 use Rattle.std.proofs.lemmas.Bool.{cases_eq, and_from, le-leb}
 use Rattle.std.proofs.lemmas.List.{append_assoc, length-set, get_or-set_same, get_or-set_other}
 use Rattle.std.proofs.lemmas.Option.{slice_get_within, get_or_from_slice_get, slice_get-get_or}
-use Rattle.frame_word.specs.Seats.{KnownTable}
-use Rattle.cpu_part.specs.{KnownCpu, HasOwn}
+use Rattle.cpu_part.specs.{KnownCpuLists, HasOwn}
 use Rattle.cpu_part.proofs.Owning.{own_same, own_unseen}
 use Rattle.step_rules.specs.declared.phase.Hold.TheVariants.{Unheld, HeldBy}
 use Rattle.step_rules.specs.declared.step.Step.{Step}
 use Rattle.step_rules.specs.declared.step.Action.TheVariants.{Lock, Unlock}
 use Rattle.step_rules.specs.declared.step.Answer.TheVariants.{Done}
-use Rattle.step_rules.specs.{Zone, is_cpu, is_unheld, is_legal, Run, after, state_of, IsLegalRun, seen_by, ShowsLocal, pushed, IsLocalRun}
+use Rattle.step_rules.specs.{Zone, is_cpu, is_unheld, is_legal, Run, after, state_of, IsLegalRun, seen_by, ShowsLocal, pushed, IsLocalRun, cpu_makes}
 use Rattle.step_rules.specs.State.{State}
 use Rattle.step_rules.proofs.Runs.{state_more}
 use Rattle.step_rules.proofs.Freeing.{zone_of_run}
 use Rattle.step_rules.proofs.Interleaving.{local_runs_interleave}
 use Rattle.step_rules.proofs.Seeing.{the_lock_is_passed_on}
-use Rattle.boot_words.specs.{hide, HasNoStepOf}
+use Rattle.boot_words.specs.{hide, HasNoStepOf, zone_of_boot, KnownTable}
 use Rattle.boot_words.proofs.Owning.{lists_are_own}
-use Rattle.mem_machine.specs.{AgreesWithRun, KnownMachine, VisitState, left_by, lock_holder, local_of, IsInterleaving, zone_of, Shows}
-use Rattle.mem_machine.specs.Steps.{cpu_makes}
+use Rattle.mem_machine.specs.{AgreesWithRun, KnownMachine, VisitState, left_by, lock_holder, local_of, IsInterleaving, Shows}
 use Rattle.mem_machine.proofs.Sight.{hide_seen, left_seen}
 use Rattle.mem_machine.proofs.Tells.{ledgers_agree}
 use Rattle.mem_history.specs.Whole.{HasTakenLock, IsPartAt, LeavesState, LinesFollow, ShowsAll, TheHolderIsShown, TheSameIsShown, under_lock}
@@ -43,10 +41,10 @@ set_else xs k j x y ne e =
 
 -- ---- the whole, by one part
 
-module _ (t : KnownTable) (run : Run) (m : KnownMachine) (cpus : List KnownCpu) (k : ℕ) (c : KnownCpu) (shows : ShowsAll t run m cpus)
+module _ (t : KnownTable) (run : Run) (m : KnownMachine) (cpus : List KnownCpuLists) (k : ℕ) (c : KnownCpuLists) (shows : ShowsAll t run m cpus)
     (is_part : slice_get cpus k ≡ Some c) where
   abbrev zone : Zone
-  zone = zone_of t
+  zone = zone_of_boot t
 
   abbrev whole : State
   whole = state_of zone run
@@ -65,7 +63,7 @@ module _ (t : KnownTable) (run : Run) (m : KnownMachine) (cpus : List KnownCpu) 
   not_zone e = let named = part_number in absurd (omega arith)
 
   -- each has its lists and pins
-  pub has_own : (j : ℕ) (d : KnownCpu) → slice_get cpus j ≡ Some d → HasOwn whole d
+  pub has_own : (j : ℕ) (d : KnownCpuLists) → slice_get cpus j ≡ Some d → HasOwn whole d
   has_own j d at = (shows.each j d at).own
 
   abbrev pub locked : Run
@@ -75,7 +73,7 @@ module _ (t : KnownTable) (run : Run) (m : KnownMachine) (cpus : List KnownCpu) 
   locked_is = state_more zone run (record { seat = c.number; action = Lock }) Done
 
   -- others' parts are what they were after steps that are none of theirs
-  pub others_keep : (rest : Run) → ((q : ℕ) → (q ≡ 0 → ⊥) → (q ≡ c.number → ⊥) → HasNoStepOf q rest) → (j : ℕ) (e : KnownCpu)
+  pub others_keep : (rest : Run) → ((q : ℕ) → (q ≡ 0 → ⊥) → (q ≡ c.number → ⊥) → HasNoStepOf q rest) → (j : ℕ) (e : KnownCpuLists)
       → slice_get cpus j ≡ Some e → (j ≡ k → ⊥) → IsPartAt (state_of zone (run ++ rest)) j e
   others_keep rest none j e at ne =
       let was = shows.each j e at in
@@ -87,12 +85,12 @@ module _ (t : KnownTable) (run : Run) (m : KnownMachine) (cpus : List KnownCpu) 
 
 -- ---- the lock is taken
 
-module _ (t : KnownTable) (run : Run) (cpus : List KnownCpu) (k : ℕ) (now : VisitState) (shows : ShowsAll t run now.machine cpus)
+module _ (t : KnownTable) (run : Run) (cpus : List KnownCpuLists) (k : ℕ) (now : VisitState) (shows : ShowsAll t run now.machine cpus)
     (taken : HasTakenLock t cpus k now) where
   -- the CPU sees what the run shows it
-  pub takes : ShowsLocal (zone_of t) (locked t run now.machine cpus k now.cpu shows taken.is_part) now.cpu.number (local_of t now.machine)
+  pub takes : ShowsLocal (zone_of_boot t) (locked t run now.machine cpus k now.cpu shows taken.is_part) now.cpu.number (local_of t now.machine)
   takes =
-      let zone = zone_of t in let c = now.cpu in let whole = state_of zone run in
+      let zone = zone_of_boot t in let c = now.cpu in let whole = state_of zone run in
       let lock = locked t run now.machine cpus k c shows taken.is_part in
       let lock_is = locked_is t run now.machine cpus k c shows taken.is_part in
       let zoned : is_cpu whole.zone c.number ≡ true = ap (λ (z : Zone). is_cpu z c.number) (zone_of_run zone run) ∙ is_one t run now.machine cpus k c shows taken.is_part in
@@ -115,8 +113,8 @@ the_same_is_shown t run m other cpus shows same = record {
   each = shows.each;
 }
 
-holder_shown : (t : KnownTable) (run : Run) (m : KnownMachine) (p : ℕ) → lock_holder m ≡ p → ShowsLocal (zone_of t) run p (local_of t m) → Shows t run m
-holder_shown t run m p who = subst (λ (q : ℕ). ShowsLocal (zone_of t) run q (local_of t m)) (sym who)
+holder_shown : (t : KnownTable) (run : Run) (m : KnownMachine) (p : ℕ) → lock_holder m ≡ p → ShowsLocal (zone_of_boot t) run p (local_of t m) → Shows t run m
+holder_shown t run m p who = subst (λ (q : ℕ). ShowsLocal (zone_of_boot t) run q (local_of t m)) (sym who)
 
 pub the_holder_is_shown : TheHolderIsShown
 the_holder_is_shown t run cpus k now shows taken =
@@ -140,19 +138,19 @@ none_of p a (e ∷ steps) b leads q some far = (
 )
 
 -- all parts after the part at index k became d
-pub parts_after : (s : State) (cpus : List KnownCpu) (k : ℕ) (c d : KnownCpu) → slice_get cpus k ≡ Some c → d.number ≡ suc k → HasOwn s d
-    → ((j : ℕ) (e : KnownCpu) → slice_get cpus j ≡ Some e → (j ≡ k → ⊥) → IsPartAt s j e)
-    → (j : ℕ) (e : KnownCpu) → slice_get (slice_set cpus k d) j ≡ Some e → IsPartAt s j e
+pub parts_after : (s : State) (cpus : List KnownCpuLists) (k : ℕ) (c d : KnownCpuLists) → slice_get cpus k ≡ Some c → d.number ≡ suc k → HasOwn s d
+    → ((j : ℕ) (e : KnownCpuLists) → slice_get cpus j ≡ Some e → (j ≡ k → ⊥) → IsPartAt s j e)
+    → (j : ℕ) (e : KnownCpuLists) → slice_get (slice_set cpus k d) j ≡ Some e → IsPartAt s j e
 parts_after s cpus k c d is_part number own others j e at = elim (cases_eq j k) [
   | inl here ↦
       let is : e ≡ d = set_here cpus k d e (slice_get_within cpus k c is_part) (subst (λ (i : ℕ). slice_get (slice_set cpus k d) i ≡ Some e) here at) in
-      subst (λ (x : KnownCpu). IsPartAt s j x) (sym is) (record { number = number ∙ ap suc (sym here); own = own })
+      subst (λ (x : KnownCpuLists). IsPartAt s j x) (sym is) (record { number = number ∙ ap suc (sym here); own = own })
   | inr ne ↦ others j e (set_else cpus k j d e ne at) ne
 ]
 
 pub lines_follow : LinesFollow
 lines_follow t run cpus k before steps later shows serves legal =
-    let zone = zone_of t in
+    let zone = zone_of_boot t in
     let m = before.machine in let n = later.machine in
     let c = before.cpu in let d = later.cpu in
     let p = c.number in

@@ -2,7 +2,6 @@
 use Rattle.std.proofs.Common.{◌≡◌, ℕ, ◌==◌, ◌||◌, Bool, true, false, Option, Some, None, [], cond, refl, sym, ap, ◌∙◌, subst, inl, inr}
 use Rattle.std.specs.Option.{option_map_or}
 use Rattle.std.proofs.lemmas.Bool.{cases_eq, ne_eqb, true≢false}
-use Rattle.frame_word.specs.Seats.{KnownTable}
 use Rattle.group_tree.specs.declared.event.EventKey.{EventKey}
 use Rattle.group_tree.specs.{count_of, no_events, has_group, initial_groups}
 use Rattle.group_tree.proofs.EventLemmas.{none_counted}
@@ -12,7 +11,8 @@ use Rattle.group_charge.specs.Charges.{account_at, empty_account, events_local_o
 use Rattle.step_rules.specs.Peaks.{IsPeak}
 use Rattle.step_rules.proofs.Noting.{events_are_counted}
 use Rattle.step_rules.proofs.Peaking.{peaks_are_kept}
-use Rattle.mem_machine.specs.{AgreesWithRun, zone_of}
+use Rattle.boot_words.specs.{zone_of_boot, KnownTable}
+use Rattle.mem_machine.specs.{AgreesWithRun}
 
 -- the one account there, or none
 abbrev found : Bool → Option Account
@@ -47,7 +47,7 @@ root_alone m there = elim (cases_eq m 0) [
 
 pub first_agrees : (t : KnownTable) → AgreesWithRun t [] initial_ledger
 first_agrees t =
-    let zone = zone_of t in
+    let zone = zone_of_boot t in
     record {
       peak = λ g there. subst (λ (k : ℕ). IsPeak zone [] k (peak_of initial_ledger k)) (sym (root_alone g there))
           (subst (IsPeak zone [] 0) (sym first_peak) (peaks_are_kept.boot zone));

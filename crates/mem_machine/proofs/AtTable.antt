@@ -1,11 +1,11 @@
 -- The table of the boot is the one that the calls are given: what is said of one is said of the other. Serves the atomic
 -- calls of the zone's seat, whose number is 0.
 use Rattle.std.proofs.Common.{◌≡◌, ℕ, sym, subst}
-use Rattle.frame_word.specs.Seats.{KnownTable}
 use Rattle.step_rules.specs.declared.step.Action.{Action}
 use Rattle.step_rules.specs.declared.step.Answer.{Answer}
 use Rattle.step_rules.specs.declared.step.Step.{Step}
 use Rattle.boot_words.specs.Pasts.{KnownPasts, IsHeld, MakesStep, MayMake}
+use Rattle.boot_words.specs.Tables.{KnownTable}
 use Rattle.mem_machine.specs.Noted.{MayTake}
 
 pub held_at : (t u : KnownTable) → u ≡ t → (s : KnownPasts) → IsHeld t s → IsHeld u s

@@ -3,17 +3,16 @@ use Rattle.std.proofs.Common.{true, false, ◌≡◌, ℕ, ◌^◌, ◌<◌, ◌
 use Rattle.std.proofs.lemmas.List.{get_or_default}
 use Rattle.zone_blocks.specs.declared.block.Block.{Block}
 use Rattle.zone_blocks.specs.{AreMaximalBlocks, GivesFrames}
-use Rattle.frame_word.specs.Seats.{KnownTable}
 use Rattle.group_charge.specs.Charges.{Ledger, with_uncharge}
 use Rattle.group_charge.proofs.CallerLemmas.{uncharge_peaks, uncharge_events}
-use Rattle.boot_words.specs.{hide, hide_phase, IsHeld, IsHolder, MakesStep, MayMake}
-use Rattle.cpu_part.specs.{PassesBackUnit, KnownCpu}
+use Rattle.boot_words.specs.{hide, hide_phase, IsHolder, KnownPasts, MakesStep, MayMake, KnownTable}
+use Rattle.cpu_part.specs.{PassesBackUnit, KnownCpuLists}
 use Rattle.step_rules.specs.declared.phase.ChargedUnit.{ChargedUnit}
 use Rattle.step_rules.specs.declared.phase.Stage.TheVariants.{AwaitsReturn, BackAt}
 use Rattle.step_rules.specs.declared.phase.Phase.TheVariants as phase
 use Rattle.step_rules.specs.declared.step.Action.TheVariants.{PassBack, Collect, Return}
 use Rattle.step_rules.specs.declared.step.Answer.TheVariants.{Done}
-use Rattle.step_rules.specs.{told_pages, Part, Zone, one_if, times, with_at, without_unit, IsLocalRun}
+use Rattle.step_rules.specs.{told_pages, Part, Zone, one_if, times, with_at, without_unit, IsLocalRun, zone_makes}
 use Rattle.step_rules.specs.State.{State}
 use Rattle.step_rules.proofs.Lists.{times_same, without_front, without_none}
 use Rattle.step_rules.proofs.SoundSteps.{below_frames}
@@ -22,21 +21,22 @@ use Rattle.mem_machine.specs.declared.frame_state.FrameState.{FrameState}
 use Rattle.mem_machine.specs.declared.frame_state.FrameState.TheVariants.{Head}
 use Rattle.mem_machine.specs.declared.counts.Counts.{Counts}
 use Rattle.mem_machine.specs.{AreBooked, AreOwners, frame_state_at, free_of, phase_hidden, KnownMachine, IsConsistent, IsShownBy, BalancesCounts}
-use Rattle.mem_machine.specs.{home_of, left_by, pages_booked, Visits, local_of, AreLocal, KnownRun, MayTake, Notes, FreesFrames, ReturnsBack}
+use Rattle.mem_machine.specs.{home_of, left_by, pages_booked, Visits, local_of, AreLocal, KnownRun, MayTake, MayTakeAll, Records, FreesFrames, ReturnsBack}
 use Rattle.mem_machine.specs.{return_steps, with_last_put}
-use Rattle.mem_machine.specs.Steps.{zone_makes, cpu_makes}
+use Rattle.mem_machine.specs.Steps.{unlist_steps}
 use Rattle.mem_machine.proofs.Balances.{balanced_last_put}
+use Rattle.mem_machine.proofs.Collecting.{passed_notes}
 use Rattle.mem_machine.proofs.Counted.{comes_back}
 use Rattle.mem_machine.proofs.Followed.{follows_still}
 use Rattle.mem_machine.proofs.Freeing.{free_block_given, homes_fit, pages_freed, units_freed}
 use Rattle.mem_machine.proofs.HandOvers.{IsVisited, handed_back, returned_state, return_run}
 use Rattle.mem_machine.proofs.Made.{visits_here, zone_seen}
 use Rattle.mem_machine.proofs.Moved.{AllMoved, back_here, books_stay, head_record, headed, is_visited, left_moved, makes_moved, may_next, no_home, number_range, own_moved, owners_moved, phases_freed, shown_moved, sums_moved, visit_moved}
-use Rattle.mem_machine.proofs.Noted.{notes_both, notes_one, run_steps}
+use Rattle.mem_machine.proofs.Noted.{may_all, notes_both, run_steps}
 use Rattle.mem_machine.proofs.OwnFrames.{HasFrame}
 use Rattle.mem_machine.proofs.Sight.{left_seen, shown_seen}
 
-module _ (t : KnownTable) (m : KnownMachine) (c : KnownCpu) (ok : IsConsistent t m) (visit : Visits t m c) (f : ℕ) (rest : List ℕ) (front : c.back ≡ f ∷ rest) where
+module _ (t : KnownTable) (m : KnownMachine) (c : KnownCpuLists) (ok : IsConsistent t m) (visit : Visits t m c) (f : ℕ) (rest : List ℕ) (front : c.back ≡ f ∷ rest) where
   shown : IsShownBy t m (hide (local_of t m))
   shown = shown_seen t m ok visit.held
 
@@ -55,7 +55,7 @@ module _ (t : KnownTable) (m : KnownMachine) (c : KnownCpu) (ok : IsConsistent t
       omega (arith, low, same, sized)
 
   module _ (unit : ChargedUnit) (heads : frame_state_at m.frame_states f ≡ Head unit) where
-    abbrev d : KnownCpu
+    abbrev d : KnownCpuLists
     d = record c { back = rest }
 
     mine : HasFrame (local_of t m) c.number (phase.Head unit (BackAt c.number)) f
@@ -91,7 +91,7 @@ module _ (t : KnownTable) (m : KnownMachine) (c : KnownCpu) (ok : IsConsistent t
     books = books_stay t.cpus (local_of t m).parts c.number (number_range t m c visit).1 part refl refl
 
     module _ (new : List FrameState) (frees : FreesFrames f (2 ^ unit.order) m.frame_states new) (blocks : List Block) (areas : AreMaximalBlocks (free_of new) blocks)
-        (counts : Counts) (counted : counts ≡ with_last_put m.counts) (run : KnownRun) (noted : Notes t m.run (return_steps c.number f) run) where
+        (counts : Counts) (counted : counts ≡ with_last_put m.counts) (run : KnownRun) (noted : Records t m.run (return_steps c.number f) run) where
       abbrev returned : KnownMachine
       returned = record m {
         blocks = blocks;
@@ -149,7 +149,7 @@ module _ (t : KnownTable) (m : KnownMachine) (c : KnownCpu) (ok : IsConsistent t
 
 -- ---- of the machine as it was seen before
 
-module _ (t : KnownTable) (m now : KnownMachine) (same : m ≡ now) (c : KnownCpu) (visit_now : Visits t now c) (ok : IsConsistent t m) where
+module _ (t : KnownTable) (m now : KnownMachine) (same : m ≡ now) (c : KnownCpuLists) (visit_now : Visits t now c) (ok : IsConsistent t m) where
   visit : Visits t m c
   visit = visits_here t m now same c visit_now
 
@@ -174,47 +174,35 @@ module _ (t : KnownTable) (m now : KnownMachine) (same : m ≡ now) (c : KnownCp
         let one = heads_one t m c ok visit f rest front in
         other one.0 (sym (read_head i index x read) ∙ ap (frame_state_at m.frame_states) index ∙ one.1)
 
-    module _ (q : ℕ) (number : q ≡ c.number) (i : ℕ) (index : i ≡ f) (mid : KnownRun) (made : MakesStep t m.run.past c.number (PassBack f) Done mid.past)
-        (saw : Watches m.run.watch (cpu_makes q (PassBack i) Done ∷ []) mid.watch) where
-      passed : Notes t m.run (cpu_makes c.number (PassBack f) Done ∷ []) mid
-      passed = notes_one t m.run (cpu_makes c.number (PassBack f) Done) mid made
-          (subst (λ (x : ℕ × ℕ). Watches m.run.watch (cpu_makes x.1 (PassBack x.0) Done ∷ []) mid.watch) (λ j. (index j, number j)) saw)
+    all : MayTakeAll t m.run.past (return_steps c.number f)
+    all = may_all t m.run.past c.number (local_of t m) (return_steps c.number f) visit.who refl local
 
-      pub holder_then : IsHolder mid.past q
-      holder_then = number ∙ sym (passed.grew.holder visit.held ∙ visit.who)
+    module _ (q : ℕ) (number : q ≡ c.number) (mid : KnownPasts) (passed : MakesStep t m.run.past c.number (PassBack f) Done mid) where
+      pub holder_then : IsHolder mid q
+      holder_then = number ∙ sym (passed.cpu_grew.number ∙ visit.who)
 
-      pub may_collect : (u : KnownTable) → u ≡ t → MayMake u mid.past 0 (Collect f q)
-      may_collect u words = subst (λ (x : KnownTable × ℕ). MayMake x.0 mid.past 0 (Collect f x.1)) (λ j. (sym words j, sym number j))
-          (may_next t m.run mid (cpu_makes c.number (PassBack f) Done ∷ []) (zone_makes (Return f) Done ∷ []) (zone_makes (Collect f c.number) Done) c.number
-          visit.held visit.who passed local).legal
+      pub may_collect : MayMake t mid 0 (Collect f q)
+      may_collect = subst (λ (x : ℕ). MayMake t mid 0 (Collect f x)) (sym number) (all.1 mid passed).0.legal
 
-      module _ (u : KnownTable) (words : u ≡ t) (later : KnownRun) (collected : MakesStep u mid.past 0 (Collect f q) Done later.past)
-          (saw_too : Watches mid.watch (zone_makes (Collect i q) Done ∷ []) later.watch) where
-        taken : Notes t m.run (cpu_makes c.number (PassBack f) Done ∷ zone_makes (Collect f c.number) Done ∷ []) later
-        taken = notes_both t m.run (cpu_makes c.number (PassBack f) Done ∷ []) mid (zone_makes (Collect f c.number) Done ∷ []) later passed
-            (notes_one t mid (zone_makes (Collect f c.number) Done) later
-            (subst (λ (x : KnownTable × ℕ). MakesStep x.0 mid.past 0 (Collect f x.1) Done later.past) (λ j. (words j, number j)) collected)
-            (subst (λ (x : ℕ × ℕ). Watches mid.watch (zone_makes (Collect x.0 x.1) Done ∷ []) later.watch) (λ j. (index j, number j)) saw_too))
-
-        pub held_later : IsHeld t later.past
-        held_later = taken.grew.held visit.held
+      module _ (later : KnownRun) (collected : MakesStep t mid 0 (Collect f q) Done later.past) (saw : Watches m.run.watch (unlist_steps q f) later.watch)
+          (i : ℕ) (index : i ≡ f) where
+        taken : Records t m.run (unlist_steps c.number f) later
+        taken = passed_notes t m.run c.number q f number mid later passed collected saw
 
         pub may_return : MayTake t later.past (zone_makes (Return i) Done)
         may_return = subst (λ (x : ℕ). MayTake t later.past (zone_makes (Return x) Done)) (sym index)
-            (may_next t m.run later (cpu_makes c.number (PassBack f) Done ∷ zone_makes (Collect f c.number) Done ∷ []) [] (zone_makes (Return f) Done) c.number
-            visit.held visit.who taken local)
+            (may_next t m.run later (unlist_steps c.number f) [] (zone_makes (Return f) Done) c.number visit.held visit.who taken local)
 
-        pub returned_notes : (last : KnownRun) → Notes t later (zone_makes (Return i) Done ∷ []) last → Notes t m.run (return_steps c.number f) last
-        returned_notes last returned =
-            notes_both t m.run (cpu_makes c.number (PassBack f) Done ∷ zone_makes (Collect f c.number) Done ∷ []) later (zone_makes (Return f) Done ∷ []) last taken
-            (subst (λ (x : ℕ). Notes t later (zone_makes (Return x) Done ∷ []) last) index returned)
+        pub returned_notes : (last : KnownRun) → Records t later (zone_makes (Return i) Done ∷ []) last → Records t m.run (return_steps c.number f) last
+        returned_notes last returned = notes_both t m.run (unlist_steps c.number f) later (zone_makes (Return f) Done ∷ []) last taken
+            (subst (λ (x : ℕ). Records t later (zone_makes (Return x) Done ∷ []) last) index returned)
 
-  pub return_all : (f : ℕ) (h : KnownCpu) → PassesBackUnit f c h → (free now_free : List Bool) (sums : List ℕ) (owners : List (Option ℕ)) → free ≡ free_of m.frame_states
+  pub return_all : (f : ℕ) (h : KnownCpuLists) → PassesBackUnit f c h → (free now_free : List Bool) (sums : List ℕ) (owners : List (Option ℕ)) → free ≡ free_of m.frame_states
       → AreBooked t.cpus (left_by t m.run.past).parts sums → AreOwners t.cpus (left_by t m.run.past).parts owners → (i : ℕ) → i ≡ f
       → (unit : ChargedUnit) → frame_state_at m.frame_states i ≡ Head unit → (new : List FrameState) → FreesFrames i (2 ^ unit.order) m.frame_states new
       → (blocks : List Block) → GivesFrames free (record { at = i; order = unit.order }) now_free → AreMaximalBlocks now_free blocks
       → (ledger : Ledger) → ledger ≡ with_uncharge m.ledger unit.group (2 ^ unit.order) → (counts : Counts) → counts ≡ with_last_put m.counts
-      → (run : KnownRun) → Notes t m.run (return_steps c.number f) run
+      → (run : KnownRun) → Records t m.run (return_steps c.number f) run
       → AllMoved t now c (ReturnsBack f) (return_steps c.number f)
       (record m { blocks = blocks; frame_states = new; ledger = ledger; counts = counts; run = run }) h now_free sums owners
   return_all f h hands free now_free sums owners was are own i index unit heads_i new frees_i blocks gives_i areas ledger uncharges counts counted run noted =
@@ -225,7 +213,7 @@ module _ (t : KnownTable) (m now : KnownMachine) (same : m ≡ now) (c : KnownCp
       let free_is : now_free ≡ free_of new =
       free_block_given free now_free m.frame_states new f unit.order (ok.units.heads f unit heads).block.inside was gives frees in
       let areas_now : AreMaximalBlocks (free_of new) blocks = subst (λ (l : List Bool). AreMaximalBlocks l blocks) free_is areas in
-      subst (λ (x : KnownMachine × KnownMachine × KnownCpu). AllMoved t x.0 c (ReturnsBack f) (return_steps c.number f) x.1 x.2 now_free sums owners)
+      subst (λ (x : KnownMachine × KnownMachine × KnownCpuLists). AllMoved t x.0 c (ReturnsBack f) (return_steps c.number f) x.1 x.2 now_free sums owners)
       (λ j. (
         same j,
         record m { blocks = blocks; frame_states = new; ledger = sym uncharges j; counts = counts; run = run },

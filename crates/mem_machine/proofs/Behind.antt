@@ -2,7 +2,6 @@
 -- `drain_stock`, `evict`, `release` and `put_zone_reference`.
 use Rattle.std.proofs.Common.{◌≡◌, ℕ, ◌≤◌, ◌==◌, Bool, true, false, Some, None, [], ◌∷◌, ◌++◌, length, cond, refl, ap, sym, ◌∙◌, subst, arith}
 use Rattle.std.proofs.lemmas.List.{append_cancel_left, append_cancel_right}
-use Rattle.frame_word.specs.Seats.{KnownTable}
 use Rattle.group_tree.specs.Groups.{has_group}
 use Rattle.step_rules.specs.declared.step.Step.{Step}
 use Rattle.step_rules.specs.declared.step.Action.{Action}
@@ -14,7 +13,7 @@ use Rattle.step_rules.specs.State.{State}
 use Rattle.step_rules.proofs.CoverParts.{part_seen}
 use Rattle.step_rules.proofs.Keeping.{keepers_are_there}
 use Rattle.step_rules.proofs.Runs.{legal_from, sound_run}
-use Rattle.boot_words.specs.{HasNoStepOf, KnownPasts, IsHeld, MakesStep, cpu_past, local_by_pasts, own_past, zone_of_boot}
+use Rattle.boot_words.specs.{HasNoStepOf, KnownPasts, IsHeld, MakesStep, cpu_past, local_by_pasts, own_past, zone_of_boot, KnownTable}
 use Rattle.boot_words.proofs.Holding.{allowed_at, still_shows, take_length}
 
 -- a legal run that shows the holder what it saw, and allows the step

@@ -6,12 +6,12 @@ use Rattle.std.specs.Int.Bits.{bit_or}
 use Rattle.std.proofs.lemmas.Bool.{cases_eq, false≢true, eqb-true}
 use Rattle.std.proofs.lemmas.List.{get_or_default}
 use Rattle.std.proofs.lemmas.Nat.Bits.{bit_at-zero, bit_at-lt, bit_at_or}
-use Rattle.frame_word.specs.Seats.{KnownTable}
 use Rattle.group_tree.specs.declared.group.Group.{Group}
 use Rattle.group_tree.specs.Groups.{in_subtree}
 use Rattle.group_tree.proofs.GroupLemmas.{group_at-contains, has_group-is}
 use Rattle.group_tree.proofs.CallerLemmas.{in_subtree-below}
-use Rattle.step_rules.specs.Usage.{is_in_subtree}
+use Rattle.group_tree.specs.{is_in_subtree}
+use Rattle.boot_words.specs.Tables.{KnownTable}
 use Rattle.mem_machine.specs.{KnownMachine, IsSubtree, stock_group, of_group, of_subtree, AreChosen}
 
 -- after k of these groups: the word has the places that those in the subtree own

@@ -3,13 +3,13 @@ use Rattle.std.proofs.Common.{◌≡◌, ◌≢◌, ℕ, ◌<◌, Bool, Option, 
 use Rattle.std.specs.Prelude.{slice_set, option_map, IfSome}
 use Rattle.std.proofs.lemmas.List.{get_or_default, set-get_or}
 use Rattle.std.proofs.lemmas.Option.{none-some}
-use Rattle.frame_word.specs.Seats.{KnownTable}
 use Rattle.lru_lists.specs.declared.record.Link.{Link}
 use Rattle.lru_lists.specs.declared.record.Home.{Home}
 use Rattle.lru_lists.specs.declared.record.LruList.{LruList}
 use Rattle.lru_lists.specs.declared.record.LruList.TheVariants.{Inactive, Active}
 use Rattle.lru_lists.specs.declared.lru.Lru.{Lru}
 use Rattle.lru_lists.specs.Lists.{OthersStayLinked, OneOfAllChanges, AreLinked, AllLinked, ChangesOwn, list_of, list_at, entries_of, changed_at, dirtied}
+use Rattle.boot_words.specs.Tables.{KnownTable}
 use Rattle.mem_machine.specs.{frame_state_at, head_group_of, KnownMachine, IsConsistent, OthersStay, home_of, lists_at, no_lists, group_lists}
 use Rattle.mem_machine.specs.{lists_of, Dirties, Makes}
 use Rattle.mem_machine.proofs.Listed.{dirtied_owners, lists_consistent, place_here, unlisted_stay, others_stay}

@@ -2,23 +2,22 @@
 use Rattle.std.proofs.Common.{◌≡◌, ℕ, ◌+◌, ◌-◌, ◌<◌, ◌≤◌, ◌==◌, true, Option, Some, None, List, [], ◌∷◌, cond, get_or, refl, sym, ap, ◌∙◌, subst, inl, inr, arith}
 use Rattle.std.specs.List.{fold}
 use Rattle.std.specs.Prelude.{slice_set}
-use Rattle.frame_word.specs.Seats.{KnownTable}
 use Rattle.group_tree.specs.Groups.{has_group}
 use Rattle.group_charge.specs.declared.note.Note.TheVariants.{Stock}
 use Rattle.group_charge.specs.{Ledger, pages_of, KnownNotes, noted}
 use Rattle.group_charge.proofs.CallerLemmas.{uncharge_pages}
+use Rattle.stock_word.specs.Stock.{group_base}
 use Rattle.step_rules.specs.declared.step.Action.TheVariants.{DrainStock, Ungrant}
 use Rattle.step_rules.specs.declared.step.Answer.TheVariants.{Done, Pages}
-use Rattle.step_rules.specs.{told_pages, Part, with_at, Run, drained, IsLocalRun}
+use Rattle.step_rules.specs.{told_pages, Part, with_at, Run, drained, IsLocalRun, zone_makes}
 use Rattle.step_rules.specs.State.{State}
 use Rattle.step_rules.proofs.Basics.{at_each}
-use Rattle.boot_words.specs.{hide, KnownPasts, IsHeld, MakesStep, MayMake, cpu_past, HasSameLists}
+use Rattle.boot_words.specs.{hide, KnownPasts, IsHeld, MakesStep, MayMake, cpu_past, HasSameLists, KnownTable}
 use Rattle.step_watch.specs.Watched.{KnownWatch, Watches}
 use Rattle.mem_machine.specs.declared.machine.Machine.TheInside.{Inside}
 use Rattle.mem_machine.specs.{AreBooked, AreOwners, IsSoundMachine, machine_of, Makes, StaysVisited, lock_holder, local_of, KnownMachine}
 use Rattle.mem_machine.specs.{IsConsistent, IsCpuOf, IsShownBy, frames_charged, left_by, pages_booked, stock_group, AreLocal, KnownRun, MayTake}
-use Rattle.mem_machine.specs.{MayTakeAll, Notes, after_made, drain_steps, Drains, DrainsNoted, uncharged}
-use Rattle.mem_machine.specs.Steps.{zone_makes}
+use Rattle.mem_machine.specs.{MayTakeAll, Records, after_made, drain_steps, Drains, DrainsNoted, uncharged}
 use Rattle.mem_machine.proofs.AtTable.{made_at}
 use Rattle.mem_machine.proofs.Behind.{FitsDrain, fits_drain}
 use Rattle.mem_machine.proofs.Booking.{book_within, books_less, books_none, books_same, sums_less, sums_same}
@@ -57,7 +56,7 @@ module _ (t : KnownTable) (m : KnownMachine) (u : State) (ok : IsShownBy t m u) 
     references = ok.references;
     settled = ok.settled;
     absorbed = at_each u.parts q (drained (u.parts q) n) (λ j x. told_pages x ≡ 0) (ok.absorbed q) (λ j ne. ok.absorbed j);
-    bounded = at_each u.parts q (drained (u.parts q) n) (λ j x. x.book < 65536) (let a = ok.bounded q in omega (arith, a)) (λ j ne. ok.bounded j);
+    bounded = at_each u.parts q (drained (u.parts q) n) (λ j x. x.book < group_base) (let a = ok.bounded q in omega (arith, a)) (λ j ne. ok.bounded j);
     charged = charged_after o group;
   }
 
@@ -143,7 +142,7 @@ module _ (t : KnownTable) (m : KnownMachine) (ok : IsConsistent t m) (q n : ℕ)
       let may : MayTakeAll t m.run.past two = may_all t m.run.past p (local_of t m) two refl refl all in
       (may.1 later made).0
 
-  module _ (o : Option ℕ) (group : stock_group t m q ≡ o) (run : KnownRun) (noted : Notes t m.run (drain_steps q o n) run) where
+  module _ (o : Option ℕ) (group : stock_group t m q ≡ o) (run : KnownRun) (noted : Records t m.run (drain_steps q o n) run) where
     ends : fold after_made (local_of t m) (drain_steps q o n) ≡ drain_state (local_of t m) q n
     ends = run_ends (lock_holder m) (local_of t m) (drain_steps q o n) (drain_state (local_of t m) q n)
         (drain_leads (local_of t m) q n (lock_holder m) o (own_group o group) k.legal k.fits)
@@ -205,16 +204,16 @@ module _ (t : KnownTable) (m : KnownMachine) (ok : IsConsistent t m) (q n : ℕ)
 -- the steps as they were made: with pages, and without
 pub noted_none : (t u : KnownTable) → u ≡ t → (run : KnownRun) (q n : ℕ) (o : Option ℕ) → n ≡ 0 → (later : KnownPasts) (watch : KnownWatch)
     → MakesStep u run.past 0 (DrainStock q) (Pages n) later → Watches run.watch (zone_makes (DrainStock q) (Pages n) ∷ []) watch
-    → Notes t run (drain_steps q o n) (record { past = later; watch = watch })
+    → Records t run (drain_steps q o n) (record { past = later; watch = watch })
 noted_none t u at run q n o none later watch made saw =
-    subst (λ (r : Run). Notes t run (zone_makes (DrainStock q) (Pages n) ∷ r) (record { past = later; watch = watch })) (sym (ungrants_none o n none))
+    subst (λ (r : Run). Records t run (zone_makes (DrainStock q) (Pages n) ∷ r) (record { past = later; watch = watch })) (sym (ungrants_none o n none))
     (notes_one t run (zone_makes (DrainStock q) (Pages n)) (record { past = later; watch = watch }) (made_at t u at 0 refl run.past (DrainStock q) (Pages n) later made) saw)
 
 pub noted_some : (t u : KnownTable) → u ≡ t → (run : KnownRun) (q n g : ℕ) → 1 ≤ n → (later : KnownPasts) (watch : KnownWatch)
     → MakesStep u run.past 0 (DrainStock q) (Pages n) later → Watches run.watch (zone_makes (DrainStock q) (Pages n) ∷ []) watch → (last : KnownRun)
-    → Notes t (record { past = later; watch = watch }) (zone_makes (Ungrant g n) Done ∷ []) last → Notes t run (drain_steps q (Some g) n) last
+    → Records t (record { past = later; watch = watch }) (zone_makes (Ungrant g n) Done ∷ []) last → Records t run (drain_steps q (Some g) n) last
 noted_some t u at run q n g some later watch made saw last rest =
-    subst (λ (r : Run). Notes t run (zone_makes (DrainStock q) (Pages n) ∷ r) last) (sym (ungrants_some g n some))
+    subst (λ (r : Run). Records t run (zone_makes (DrainStock q) (Pages n) ∷ r) last) (sym (ungrants_some g n some))
     (notes_both t run (zone_makes (DrainStock q) (Pages n) ∷ []) (record { past = later; watch = watch }) (zone_makes (Ungrant g n) Done ∷ []) last
     (notes_one t run (zone_makes (DrainStock q) (Pages n)) (record { past = later; watch = watch }) (made_at t u at 0 refl run.past (DrainStock q) (Pages n) later made) saw) rest)
 
@@ -223,7 +222,7 @@ module _ {N : Type 0} (t : KnownTable) (fields : Inside N) (ok : IsSoundMachine 
   abbrev m : KnownMachine
   m = machine_of fields
 
-  pub drained_sound : (g : ℕ) → stock_group t (machine_of fields) q ≡ Some g → (i : ℕ) → i ≡ g → i < 64 → (run : KnownRun) → Notes t (machine_of fields).run (drain_steps q (Some g) n) run
+  pub drained_sound : (g : ℕ) → stock_group t (machine_of fields) q ≡ Some g → (i : ℕ) → i ≡ g → i < 64 → (run : KnownRun) → Records t (machine_of fields).run (drain_steps q (Some g) n) run
       → (charges : Ledger) → charges ≡ uncharged (machine_of fields).ledger (Some g) n
       → IsSoundMachine {N = N} t (record fields { charges = charges; sums = slice_set fields.sums i (get_or fields.sums i 0 - n); past = run.past; watch = run.watch })
   drained_sound g group i is fits run noted charges off = record {
@@ -233,7 +232,7 @@ module _ {N : Type 0} (t : KnownTable) (fields : Inside N) (ok : IsSoundMachine 
     owners = owners_then t m ok.consistent q n k (Some g) group run noted fields.owners ok.owners;
   }
 
-  pub emptied_sound : n ≡ 0 → (run : KnownRun) → Notes t (machine_of fields).run (drain_steps q (stock_group t (machine_of fields) q) n) run
+  pub emptied_sound : n ≡ 0 → (run : KnownRun) → Records t (machine_of fields).run (drain_steps q (stock_group t (machine_of fields) q) n) run
       → IsSoundMachine {N = N} t (record fields { past = run.past; watch = run.watch })
   emptied_sound none run noted =
       let o = stock_group t m q in record {

@@ -3,7 +3,6 @@ use Rattle.std.proofs.Common.{◌≡◌, ℕ, zero, suc, ◌+◌, ◌-◌, ◌�
 use Rattle.std.specs.Option.{option_map_or}
 use Rattle.std.specs.Prelude.{nat_le, is_some}
 use Rattle.std.proofs.lemmas.Bool.{and_from, le-leb}
-use Rattle.frame_word.specs.Seats.{KnownTable}
 use Rattle.group_tree.specs.Groups.{has_group}
 use Rattle.group_tree.proofs.GroupLemmas.{is_some-find}
 use Rattle.group_charge.specs.declared.account.Account as charge
@@ -15,10 +14,10 @@ use Rattle.step_rules.specs.{Part, Zone, is_cpu, with_at, is_legal, IsLocalStep,
 use Rattle.step_rules.specs.State.{State}
 use Rattle.step_rules.proofs.Basics.{at_each, at_other, at_same}
 use Rattle.step_rules.proofs.LegalTests.{drain_stock_tests}
-use Rattle.boot_words.specs.{hide, KnownPasts, IsHeld, MayMake, HasSameLists}
+use Rattle.step_rules.specs.After.{zone_makes}
+use Rattle.boot_words.specs.{hide, KnownPasts, IsHeld, MayMake, HasSameLists, KnownTable}
 use Rattle.mem_machine.specs.declared.counts.Counts.{Counts}
 use Rattle.mem_machine.specs.{counts_along, FollowsSteps, IsCpuOf, drain_steps, ungrant_steps, uncharged}
-use Rattle.mem_machine.specs.Steps.{zone_makes}
 use Rattle.mem_machine.proofs.Behind.{FitsDrain}
 use Rattle.mem_machine.proofs.Followed.{follows_same, follows_still}
 use Rattle.mem_machine.proofs.Made.{zone_acts, zone_seen}

@@ -9,7 +9,6 @@ use Rattle.std.proofs.lemmas.List.Sums.{sum_by-append, sum_by-cons}
 use Rattle.std.proofs.lemmas.Grind.{flat_map-append}
 use Rattle.std.proofs.lemmas.Bool.{cases_eq, cases_lt, cond_both, false_from_ne_true, false≢true}
 use Rattle.std.proofs.lemmas.Nat.Bits.{bit_at-zero}
-use Rattle.frame_word.specs.Seats.{KnownTable}
 use Rattle.group_tree.specs.declared.group.Group.{Group}
 use Rattle.group_tree.specs.Groups.{in_subtree}
 use Rattle.group_charge.specs.declared.account.Account as charge
@@ -18,6 +17,7 @@ use Rattle.group_charge.proofs.SumLemmas.{share}
 use Rattle.step_rules.specs.State.{Part, State}
 use Rattle.step_rules.specs.After.{Run, drained}
 use Rattle.step_rules.proofs.Basics.{at_other, at_same}
+use Rattle.boot_words.specs.Tables.{KnownTable}
 use Rattle.mem_machine.specs.{KnownMachine, part_at, stock_group, Makes, StaysVisited, Drain, drain_steps, drain_stocks_steps, pages_drained}
 use Rattle.mem_machine.specs.{AreChosen, AreChosenBySome, AreDrainedIf, Drains, DrainsAllIf, DrainsBySteps, DrainsIf, DrainsNoted, HasDrained}
 use Rattle.mem_machine.specs.{IsDrained, StockTest, uncharged}

@@ -3,7 +3,6 @@ use Rattle.std.proofs.Common.{◌≡◌, ◌≢◌, ℕ, ◌^◌, ◌<◌, Bool,
 use Rattle.std.specs.Prelude.{IfSome}
 use Rattle.zone_blocks.specs.declared.block.Block.{Block}
 use Rattle.zone_blocks.specs.{AreMaximalBlocks, GivesFrames}
-use Rattle.frame_word.specs.Seats.{KnownTable}
 use Rattle.group_charge.specs.{Ledger, UsageRises, with_uncharge, KnownNotes, unit_noted}
 use Rattle.group_charge.proofs.CallerLemmas.{uncharge_events, uncharge_peaks}
 use Rattle.lru_lists.specs.declared.record.Link.{Link}
@@ -16,11 +15,12 @@ use Rattle.step_rules.specs.declared.step.Answer.TheVariants as answer
 use Rattle.step_rules.specs.{Run, after, is_legal}
 use Rattle.step_rules.proofs.Basics.{at_other}
 use Rattle.boot_words.specs.Pasts.{IsHeld, MayMake, cpu_past, local_by_pasts}
+use Rattle.boot_words.specs.Tables.{KnownTable}
 use Rattle.mem_machine.specs.declared.counts.Counts.{Counts}
 use Rattle.mem_machine.specs.declared.frame_state.FrameState.{FrameState}
 use Rattle.mem_machine.specs.declared.frame_state.FrameState.TheVariants.{Head}
 use Rattle.mem_machine.specs.{frame_state_at, free_of, head_group_of, KnownMachine, IsConsistent, IsShownBy, group_lists, home_of, lists_of, Makes}
-use Rattle.mem_machine.specs.{StaysVisited, local_of, KnownRun, Notes, FreesFrames, with_freeze, with_miss, one_more_freeze, LeavesList, EvictsUnit}
+use Rattle.mem_machine.specs.{StaysVisited, local_of, KnownRun, Records, FreesFrames, with_freeze, with_miss, one_more_freeze, LeavesList, EvictsUnit}
 use Rattle.mem_machine.specs.{MissesUnit, evict_steps}
 use Rattle.mem_machine.proofs.Balances.{balanced_freeze}
 use Rattle.mem_machine.proofs.Counted.{returned_ended}
@@ -46,7 +46,7 @@ pub record AllMissed (t : KnownTable) (now n : KnownMachine) (f : ℕ) : Type 0 
   pub steps : Makes t now (evict_steps f None) n
 
 module _ (t : KnownTable) (m : KnownMachine) (ok : IsConsistent t m) (held : IsHeld t m.run.past) (f : ℕ) (inside : f < t.frames) (kept : home_of m.links f ≢ None)
-    (run : KnownRun) (noted : Notes t m.run (evict_steps f None) run) where
+    (run : KnownRun) (noted : Records t m.run (evict_steps f None) run) where
   missed : AllMissed t m (record m { counts = with_miss m.counts; run = run }) f
   missed =
       let n : KnownMachine = record m { counts = with_miss m.counts; run = run } in
@@ -78,7 +78,7 @@ module _ (t : KnownTable) (m : KnownMachine) (ok : IsConsistent t m) (held : IsH
       }
 
 pub missed_all : (t : KnownTable) (m now : KnownMachine) → m ≡ now → IsConsistent t m → (f : ℕ) → f < t.frames → home_of now.links f ≢ None → IsHeld t now.run.past
-    → (counts : Counts) → counts ≡ with_miss m.counts → (run : KnownRun) → Notes t m.run (evict_steps f None) run
+    → (counts : Counts) → counts ≡ with_miss m.counts → (run : KnownRun) → Records t m.run (evict_steps f None) run
     → AllMissed t now (record m { counts = counts; run = run }) f
 missed_all t m now same ok f inside kept_now held_now counts counted run noted =
     subst (λ (x : KnownMachine × Counts). AllMissed t x.0 (record m { counts = x.1; run = run }) f) (λ j. (same j, sym counted j))
@@ -109,7 +109,7 @@ module _ (t : KnownTable) (m : KnownMachine) (ok : IsConsistent t m) (held : IsH
     (before free : List Bool) (was : before ≡ free_of m.frame_states) (gives : GivesFrames before (record { at = f; order = unit.order }) free)
     (frame_states : List FrameState) (frees : FreesFrames f (2 ^ unit.order) m.frame_states frame_states) (blocks : List Block) (areas_free : AreMaximalBlocks free blocks)
     (usage : UsageRises (with_uncharge m.ledger unit.group (2 ^ unit.order)) m.ledger unit.group (2 ^ unit.order)) (run : KnownRun)
-    (noted : Notes t m.run (evict_steps f (Some (2 ^ unit.order))) run) where
+    (noted : Records t m.run (evict_steps f (Some (2 ^ unit.order))) run) where
   abbrev evicted_machine : KnownMachine
   evicted_machine = record m {
     blocks = blocks;
@@ -167,7 +167,7 @@ pub evicted_all : (t : KnownTable) (m now : KnownMachine) → m ≡ now → IsCo
     → before ≡ free_of m.frame_states → FreesFrames i (2 ^ unit.order) m.frame_states frame_states → GivesFrames before (record { at = i; order = unit.order }) free
     → AreMaximalBlocks free blocks → ledger ≡ with_uncharge m.ledger unit.group (2 ^ unit.order)
     → UsageRises ledger m.ledger unit.group (2 ^ unit.order) → counts ≡ with_freeze m.counts → pages ≡ 2 ^ unit.order
-    → (run : KnownRun) → Notes t m.run (evict_steps f (Some pages)) run
+    → (run : KnownRun) → Records t m.run (evict_steps f (Some pages)) run
     → AllEvicted t now (record m {
       blocks = blocks;
       frame_states = frame_states;

@@ -5,7 +5,6 @@ use Rattle.std.proofs.lemmas.Bool.{cases_lt, cases_eq, ne_eqb}
 use Rattle.std.proofs.lemmas.List.{get_or-replicate, length-replicate, length_push, get_or_append_left, get_or_push}
 use Rattle.zone_blocks.specs.Areas.{AreMaximalBlocks}
 use Rattle.std.specs.Prelude.{is_some}
-use Rattle.frame_word.specs.Seats.{KnownTable}
 use Rattle.group_charge.specs.Charges.{Ledger, initial_ledger, pages_of, account_at}
 use Rattle.group_charge.specs.Notes.{no_notes}
 use Rattle.lru_lists.specs.declared.record.Link.{Link}
@@ -21,7 +20,7 @@ use Rattle.mem_machine.specs.{FitsFrameState, IsConsistent, IsFirst, IsShownBy, 
 use Rattle.mem_machine.specs.{booked, AreBooked, AreOwners, Rests}
 use Rattle.step_rules.specs.State.{State, Zone, at_boot, is_unheld, one_if}
 use Rattle.step_rules.specs.After.{state_of}
-use Rattle.boot_words.specs.{hide, IsZonePast, KnownPasts, own_past, seat_at_first, zone_of_boot}
+use Rattle.boot_words.specs.{hide, IsZonePast, KnownPasts, own_past, seat_at_first, zone_of_boot, KnownTable}
 
 pub empty_none : (lists : List Lru) → lists ≡ [] → AreEmpty lists 0
 empty_none lists none = record {

@@ -6,23 +6,23 @@ use Rattle.std.proofs.lemmas.List.Sums.{fold-append}
 use Rattle.std.proofs.lemmas.Bool.{cases_eq, cases_Bool, and_parts, true≢false, false≢true}
 use Rattle.group_tree.specs.declared.event.EventKey.{EventKey}
 use Rattle.group_tree.specs.declared.group.Group.{Group}
-use Rattle.group_tree.specs.{EventCounts, count_of, has_group, without_group, one_more}
+use Rattle.group_tree.specs.{EventCounts, count_of, has_group, without_group, one_more, is_in_subtree}
 use Rattle.group_tree.proofs.CallerLemmas.{has_group-with, has_group-limited, has_group-flagged, has_group-without}
 use Rattle.group_charge.specs.Charges.{Ledger, SamePeaks, SameEvents}
-use Rattle.frame_word.specs.Seats.{KnownTable}
 use Rattle.step_rules.specs.declared.step.Step.{Step}
 use Rattle.step_rules.specs.declared.step.Action.{Action}
 use Rattle.step_rules.specs.declared.step.Action.TheVariants.{Lock, Grant, SetMax, SetFlag, Make, Remove}
 use Rattle.step_rules.specs.declared.step.Answer.{Answer}
 use Rattle.step_rules.specs.declared.step.Answer.TheVariants.{Illegal, Done, Granted, Number}
 use Rattle.step_rules.specs.State.{State}
-use Rattle.step_rules.specs.{Run, after, peak_follows, IsLocalRun, event_of, noted_at, is_noted_at, is_noted_in_subtree, makes_group, is_in_subtree}
+use Rattle.step_rules.specs.{Run, after, peak_follows, IsLocalRun, event_of, noted_at, is_noted_at, is_noted_in_subtree, makes_group}
 use Rattle.step_rules.specs.{is_of_group}
 use Rattle.step_rules.proofs.CallerLemmas.{noted_nowhere}
 use Rattle.step_rules.proofs.Moving.{gone_itself}
 use Rattle.boot_words.specs.Pasts.{cpu_past, local_by_pasts}
+use Rattle.boot_words.specs.Tables.{KnownTable}
 use Rattle.mem_machine.specs.{Moves, moved_along, moves_peak, moves_count, ExistsAfter, FollowsSteps, counts_after, counts_along, KnownMachine, Makes}
-use Rattle.mem_machine.specs.{lock_holder, local_of, KnownRun, Notes, after_made}
+use Rattle.mem_machine.specs.{lock_holder, local_of, KnownRun, Records, after_made}
 use Rattle.mem_machine.specs.declared.counts.Counts.{Counts}
 use Rattle.mem_machine.proofs.Noted.{notes_none, notes_both, run_ends}
 use Rattle.mem_machine.proofs.Reaching.{run_both}
@@ -224,6 +224,6 @@ makes_stay t m n same counted unnoted = record {
   holder = ap (λ (r : KnownRun). (cpu_past r.past).number) unnoted;
   leads = ap (λ (r : KnownRun). local_by_pasts t r.past) (sym unnoted);
   counts = counted;
-  noted = subst (Notes t m.run []) (sym unnoted) (notes_none t m.run);
+  noted = subst (Records t m.run []) (sym unnoted) (notes_none t m.run);
   follows = subst (FollowsSteps (local_of t m) m.ledger []) (sym same) (follows_same (local_of t m) m.ledger [] refl);
 }

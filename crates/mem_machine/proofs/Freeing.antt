@@ -9,7 +9,6 @@ use Rattle.std.proofs.lemmas.Option.{none-some}
 use Rattle.std.proofs.lemmas.Nat.{pow_pos}
 use Rattle.std.proofs.lemmas.List.{get_or-set_same, get_or-set_other, length-set, ext_get_or}
 use Rattle.zone_blocks.specs.{IsBlock, GivesFrames, IsInUse}
-use Rattle.frame_word.specs.Seats.{KnownTable}
 use Rattle.group_charge.specs.Charges.{pages_of, with_uncharge}
 use Rattle.group_charge.proofs.CallerLemmas.{uncharge_pages}
 use Rattle.lru_lists.specs.declared.record.Link.{Link}
@@ -21,6 +20,7 @@ use Rattle.step_rules.specs.{unit_of, one_if, is_within, unit_size, without_unit
 use Rattle.step_rules.specs.State.{sum_to}
 use Rattle.step_rules.proofs.Sums.{sum_same, sum_both, sum_none}
 use Rattle.step_rules.proofs.Placing.{within_cases}
+use Rattle.boot_words.specs.Tables.{KnownTable}
 use Rattle.mem_machine.specs.declared.frame_state.FrameState.{FrameState}
 use Rattle.mem_machine.specs.declared.frame_state.FrameState.TheVariants.{Free, Head, Tail}
 use Rattle.boot_words.specs.Hidden.{hide_phase}

@@ -1,39 +1,37 @@
 -- A fresh frame is kept for its group, or dropped. Serves `keep_one` and `drop_one`.
-use Rattle.std.proofs.Common.{◌++◌, ◌≡◌, ◌≢◌, ℕ, ◌+◌, ◌-◌, ◌^◌, ◌<◌, ◌≤◌, ◌==◌, Bool, true, false, cond, Option, Some, None, List, [], ◌∷◌, length, get_or}
+use Rattle.std.proofs.Common.{◌≡◌, ◌≢◌, ℕ, ◌+◌, ◌-◌, ◌^◌, ◌<◌, ◌≤◌, ◌==◌, Bool, true, false, cond, Option, Some, None, List, [], ◌∷◌, length, get_or}
 use Rattle.std.proofs.Common.{refl, sym, ap, ◌∙◌, subst, arith, inl, inr, eq-eqb}
 use Rattle.std.specs.Prelude.{drop, is_some, slice_set}
 use Rattle.std.proofs.lemmas.Bool.{cases_eq, ne_eqb, false≢true}
 use Rattle.std.proofs.lemmas.List.{get_or-set_same, get_or-set_other, length-set, ext_get_or}
 use Rattle.zone_blocks.specs.declared.block.Block.{Block}
 use Rattle.zone_blocks.specs.{IsBlock, AreMaximalBlocks, GivesFrames, IsInUse}
-use Rattle.frame_word.specs.Seats.{KnownTable}
 use Rattle.group_charge.specs.Charges.{Ledger, pages_of, with_uncharge}
 use Rattle.group_charge.proofs.CallerLemmas.{uncharge_pages, uncharge_peaks, uncharge_events}
 use Rattle.group_tree.specs.Bounds.{most_groups}
 use Rattle.lru_lists.specs.declared.record.Home.{Home}
 use Rattle.lru_lists.specs.declared.record.Link.{Link}
 use Rattle.lru_lists.specs.declared.lru.Lru.{Lru}
-use Rattle.boot_words.specs.{AreLegal, hide, hide_phase, MakesStep, MayMake}
-use Rattle.cpu_part.specs.Cpus.{KnownCpu}
+use Rattle.boot_words.specs.{AreLegal, hide, hide_phase, KnownTable}
+use Rattle.cpu_part.specs.Cpus.{KnownCpuLists}
 use Rattle.step_rules.specs.declared.phase.ChargedUnit.{ChargedUnit}
 use Rattle.step_rules.specs.declared.phase.Stage.TheVariants.{FreshAt, Collected, Live}
 use Rattle.step_rules.specs.declared.phase.Phase.TheVariants as phase
-use Rattle.step_rules.specs.declared.step.Action.TheVariants.{Unfreeze, Publish, Return}
+use Rattle.step_rules.specs.declared.step.Action.TheVariants.{Return}
 use Rattle.step_rules.specs.declared.step.Answer.TheVariants.{Done}
-use Rattle.step_rules.specs.{told_pages, Part, Zone, one_if, times, with_at, without_unit, IsLocalRun}
+use Rattle.step_rules.specs.{told_pages, Part, Zone, one_if, times, with_at, without_unit, IsLocalRun, zone_makes}
 use Rattle.step_rules.specs.State.{State}
 use Rattle.step_rules.proofs.Basics.{at_other, at_same}
 use Rattle.step_rules.proofs.SoundSteps.{below_frames}
 use Rattle.step_rules.proofs.Lists.{times_same, without_front, without_none}
-use Rattle.step_watch.specs.Watched.{Watches}
 use Rattle.mem_machine.specs.declared.frame_state.FrameState.{FrameState}
 use Rattle.mem_machine.specs.declared.frame_state.FrameState.TheVariants.{Free, Lent, Head}
 use Rattle.mem_machine.specs.declared.counts.Counts.{Counts}
 use Rattle.mem_machine.specs.{AreBooked, AreOwners, frame_state_at, is_free_state, free_of, frame_state_group, AreUnits, KnownMachine, FitsFrameState}
 use Rattle.mem_machine.specs.{IsConsistent, IsShownBy, BalancesCounts, frames_charged, home_of, is_killed, left_by, pages_booked, stock_group, Visits}
-use Rattle.mem_machine.specs.{local_of, AreLocal, KnownRun, MayTake, Notes, PlacesUnit, with_killed_fresh, FreesFrames, HandsOver, KeepsFresh}
+use Rattle.mem_machine.specs.{local_of, AreLocal, KnownRun, MayTake, MayTakeAll, Records, PlacesUnit, with_killed_fresh, FreesFrames, HandsOver, KeepsFresh}
 use Rattle.mem_machine.specs.{DropsFresh, collect_steps, keep_steps, drop_steps}
-use Rattle.mem_machine.specs.Steps.{zone_makes}
+use Rattle.mem_machine.specs.Steps.{publish_steps}
 use Rattle.mem_machine.proofs.Balances.{balanced_killed_fresh}
 use Rattle.mem_machine.proofs.BlockCharges.{charges_rise}
 use Rattle.mem_machine.proofs.Counted.{collects_none, comes_back}
@@ -41,9 +39,9 @@ use Rattle.mem_machine.proofs.Followed.{follows_same, follows_still}
 use Rattle.mem_machine.proofs.Freeing.{is_out, is_in, free_block_given}
 use Rattle.mem_machine.proofs.HandOvers.{IsVisited, absorbed_part, collect_run, dropped_state, drop_run, kept_state, keep_run, one_more_held}
 use Rattle.mem_machine.proofs.Joins.{AllJoin}
-use Rattle.mem_machine.proofs.Moved.{AllMoved, books_fall, book_within, booked_here, fresh_here, group_seen, is_visited, left_moved, lent_in_use, lent_record, makes_moved, may_next, no_home, number_range, own_moved, owners_moved, phases_freed, phases_set, shown_moved, sums_moved, visit_moved}
+use Rattle.mem_machine.proofs.Moved.{AllMoved, books_fall, book_within, booked_here, fresh_here, group_seen, is_visited, left_moved, lent_in_use, lent_record, local_behind, makes_moved, may_next, no_home, number_range, own_moved, owners_moved, phases_freed, phases_set, shown_moved, sums_moved, visit_moved}
 use Rattle.mem_machine.proofs.Made.{visits_here, zone_seen}
-use Rattle.mem_machine.proofs.Noted.{local_legal, notes_both, notes_one, run_steps}
+use Rattle.mem_machine.proofs.Noted.{local_legal, may_all, notes_both, run_steps}
 use Rattle.mem_machine.proofs.OwnFrames.{HasFrame}
 use Rattle.mem_machine.proofs.PlacesUnits.{head_of_block, off_block}
 use Rattle.mem_machine.proofs.Records.{free_at, free_set, units_stay, charges_stay}
@@ -88,7 +86,7 @@ frees_one frame_states new f inside frees =
           ∙ sym (get_or-set_other frame_states f g Free Free ne)
     ])
 
-module _ (t : KnownTable) (m : KnownMachine) (c : KnownCpu) (ok : IsConsistent t m) (visit : Visits t m c)
+module _ (t : KnownTable) (m : KnownMachine) (c : KnownCpuLists) (ok : IsConsistent t m) (visit : Visits t m c)
     (f g : ℕ) (rest : List ℕ) (front : c.fresh ≡ f ∷ rest) (of : stock_group t m c.number ≡ Some g) where
   abbrev s : State
   s = local_of t m
@@ -96,7 +94,7 @@ module _ (t : KnownTable) (m : KnownMachine) (c : KnownCpu) (ok : IsConsistent t
   abbrev unit : ChargedUnit
   unit = record { group = g; order = 0 }
 
-  abbrev d : KnownCpu
+  abbrev d : KnownCpuLists
   d = record c { fresh = rest }
 
   shown : IsShownBy t m (hide (local_of t m))
@@ -194,7 +192,7 @@ module _ (t : KnownTable) (m : KnownMachine) (c : KnownCpu) (ok : IsConsistent t
   -- ---- the steps
 
   pub keep_leads : IsLocalRun c.number (local_of t m) (keep_steps c.number f) (kept_state (local_of t m) c.number f v unit)
-  keep_leads = collect_run (local_of t m) c.number f v unit mine.phase_is none_reported (zone_makes (Unfreeze f 1) Done ∷ zone_makes (Publish f) Done ∷ []) _
+  keep_leads = collect_run (local_of t m) c.number f v unit mine.phase_is none_reported (publish_steps f) _
       (keep_run (local_of t m) c.number f v unit)
 
   pub drop_leads : is_killed m.killed g ≡ true → IsLocalRun c.number (local_of t m) (drop_steps c.number f) (dropped_state (local_of t m) c.number f v unit)
@@ -204,7 +202,7 @@ module _ (t : KnownTable) (m : KnownMachine) (c : KnownCpu) (ok : IsConsistent t
   -- ---- kept
 
   module _ (links : List Link) (lists : List Lru) (run : KnownRun) (joined : AllJoin m.links m.lists g f links lists) (fits : g < most_groups)
-      (noted : Notes t m.run (keep_steps c.number f) run) where
+      (noted : Records t m.run (keep_steps c.number f) run) where
     abbrev kept : KnownMachine
     kept = record m { frame_states = slice_set m.frame_states f (Head (record { group = g; order = 0 })); links = links; lists = lists; run = run }
 
@@ -301,7 +299,7 @@ module _ (t : KnownTable) (m : KnownMachine) (c : KnownCpu) (ok : IsConsistent t
 
   module _ (new : List FrameState) (frees : FreesFrames f (2 ^ 0) m.frame_states new) (blocks : List Block) (areas : AreMaximalBlocks (free_of new) blocks)
       (counts : Counts) (counted : counts ≡ with_killed_fresh m.counts) (killed : is_killed m.killed g ≡ true) (run : KnownRun)
-      (noted : Notes t m.run (drop_steps c.number f) run) where
+      (noted : Records t m.run (drop_steps c.number f) run) where
     abbrev dropped : KnownMachine
     dropped = record m { blocks = blocks; frame_states = new; ledger = with_uncharge m.ledger g 1; counts = counts; run = run }
 
@@ -369,14 +367,6 @@ module _ (t : KnownTable) (m : KnownMachine) (c : KnownCpu) (ok : IsConsistent t
               (counted ∙ comes_back (local_of t m) f (phase.Head unit (FreshAt c.number)) mine.phase_is false true refl (shown.killed g ∙ killed) m.counts);
         }
 
--- ---- the run
-
-pub unfrozen_notes : (t u : KnownTable) → u ≡ t → (mid later : KnownRun) (f i : ℕ) → i ≡ f → MakesStep u mid.past 0 (Unfreeze f 1) Done later.past
-    → Watches mid.watch (zone_makes (Unfreeze i 1) Done ∷ []) later.watch → Notes t mid (zone_makes (Unfreeze f 1) Done ∷ []) later
-unfrozen_notes t u words mid later f i index made saw = notes_one t mid (zone_makes (Unfreeze f 1) Done) later
-    (subst (λ (x : KnownTable). MakesStep x mid.past 0 (Unfreeze f 1) Done later.past) words made)
-    (subst (λ (x : ℕ). Watches mid.watch (zone_makes (Unfreeze x 1) Done ∷ []) later.watch) index saw)
-
 -- ---- of the machine as it was seen before
 
 -- a list that isn't empty has a front
@@ -384,7 +374,7 @@ pub front_of_some : (xs : List ℕ) → xs ≢ [] → (f : ℕ) × (rest : List 
 front_of_some [] some = absurd (some refl)
 front_of_some (x ∷ xs) some = (x, xs, refl)
 
-module _ (t : KnownTable) (m now : KnownMachine) (same : m ≡ now) (c : KnownCpu) (visit_now : Visits t now c) (ok : IsConsistent t m)
+module _ (t : KnownTable) (m now : KnownMachine) (same : m ≡ now) (c : KnownCpuLists) (visit_now : Visits t now c) (ok : IsConsistent t m)
     (g : ℕ) (of_now : stock_group t now c.number ≡ Some g) where
   visit : Visits t m c
   visit = visits_here t m now same c visit_now
@@ -409,7 +399,7 @@ module _ (t : KnownTable) (m now : KnownMachine) (same : m ≡ now) (c : KnownCp
     keep_local = run_steps c.number (local_of t m) (keep_steps c.number f) _ (keep_leads t m c ok visit f g rest front of)
 
     pub collect_legal : AreLegal (local_of t m) (collect_steps c.number f)
-    collect_legal = local_legal c.number (local_of t m) (collect_steps c.number f) (zone_makes (Unfreeze f 1) Done ∷ zone_makes (Publish f) Done ∷ []) keep_local
+    collect_legal = local_legal c.number (local_of t m) (collect_steps c.number f) (publish_steps f) keep_local
 
     pub away_here : (i : ℕ) → i ≡ f → home_of m.links i ≡ None
     away_here i index = ap (home_of m.links) index ∙ no_list t m c ok visit f g rest front of
@@ -423,24 +413,13 @@ module _ (t : KnownTable) (m now : KnownMachine) (same : m ≡ now) (c : KnownCp
         let one : 2 ^ k ≡ 1 = ap (λ (j : ℕ). 2 ^ j) zero_is in
         omega (arith, a, index, one)
 
-    module _ (mid : KnownRun) (collected : Notes t m.run (collect_steps c.number f) mid) where
-      pub may_unfreeze : (u : KnownTable) → u ≡ t → MayMake u mid.past 0 (Unfreeze f 1)
-      may_unfreeze u words = subst (λ (x : KnownTable). MayMake x mid.past 0 (Unfreeze f 1)) (sym words)
-          (may_next t m.run mid (collect_steps c.number f) (zone_makes (Publish f) Done ∷ []) (zone_makes (Unfreeze f 1) Done) c.number visit.held visit.who collected
-          keep_local).legal
+    module _ (mid : KnownRun) (collected : Records t m.run (collect_steps c.number f) mid) where
+      pub may_publish : MayTakeAll t mid.past (publish_steps f)
+      may_publish = may_all t mid.past c.number _ (publish_steps f) (collected.grew.holder visit.held ∙ visit.who) (collected.grew.sees visit.held)
+          (local_behind c.number (local_of t m) (collect_steps c.number f) (publish_steps f) keep_local)
 
-      module _ (later : KnownRun) (unfrozen : Notes t mid (zone_makes (Unfreeze f 1) Done ∷ []) later) where
-        both : Notes t m.run (collect_steps c.number f ++ zone_makes (Unfreeze f 1) Done ∷ []) later
-        both = notes_both t m.run (collect_steps c.number f) mid (zone_makes (Unfreeze f 1) Done ∷ []) later collected unfrozen
-
-        pub may_publish : (i : ℕ) → i ≡ f → MayTake t later.past (zone_makes (Publish i) Done)
-        may_publish i index = subst (λ (x : ℕ). MayTake t later.past (zone_makes (Publish x) Done)) (sym index)
-            (may_next t m.run later (collect_steps c.number f ++ zone_makes (Unfreeze f 1) Done ∷ []) [] (zone_makes (Publish f) Done) c.number visit.held visit.who both
-            keep_local)
-
-        pub kept_notes : (last : KnownRun) (i : ℕ) → i ≡ f → Notes t later (zone_makes (Publish i) Done ∷ []) last → Notes t m.run (keep_steps c.number f) last
-        kept_notes last i index published = notes_both t m.run (collect_steps c.number f ++ zone_makes (Unfreeze f 1) Done ∷ []) later (zone_makes (Publish f) Done ∷ []) last both
-            (subst (λ (x : ℕ). Notes t later (zone_makes (Publish x) Done ∷ []) last) index published)
+      pub kept_notes : (last : KnownRun) → Records t mid (publish_steps f) last → Records t m.run (keep_steps c.number f) last
+      kept_notes last published = notes_both t m.run (collect_steps c.number f) mid (publish_steps f) last collected published
 
       pub may_return : is_killed now.killed g ≡ true → (i : ℕ) → i ≡ f → MayTake t mid.past (zone_makes (Return i) Done)
       may_return killed i index = subst (λ (x : ℕ). MayTake t mid.past (zone_makes (Return x) Done)) (sym index)
@@ -448,22 +427,22 @@ module _ (t : KnownTable) (m now : KnownMachine) (same : m ≡ now) (c : KnownCp
           (run_steps c.number (local_of t m) (drop_steps c.number f) _
           (drop_leads t m c ok visit f g rest front of (ap (λ (x : KnownMachine). is_killed x.killed g) same ∙ killed))))
 
-      pub dropped_notes : (last : KnownRun) (i : ℕ) → i ≡ f → Notes t mid (zone_makes (Return i) Done ∷ []) last → Notes t m.run (drop_steps c.number f) last
+      pub dropped_notes : (last : KnownRun) (i : ℕ) → i ≡ f → Records t mid (zone_makes (Return i) Done ∷ []) last → Records t m.run (drop_steps c.number f) last
       dropped_notes last i index returned = notes_both t m.run (collect_steps c.number f) mid (zone_makes (Return f) Done ∷ []) last collected
-          (subst (λ (x : ℕ). Notes t mid (zone_makes (Return x) Done ∷ []) last) index returned)
+          (subst (λ (x : ℕ). Records t mid (zone_makes (Return x) Done ∷ []) last) index returned)
 
     -- all of it, if it is kept
     pub keep_all : (free : List Bool) (sums sums' : List ℕ) (owners : List (Option ℕ)) → free ≡ free_of m.frame_states
         → AreBooked t.cpus (left_by t m.run.past).parts sums → AreOwners t.cpus (left_by t m.run.past).parts owners → g < most_groups
-        → (h : KnownCpu) → HandsOver f c h → sums' ≡ slice_set sums g (get_or sums g 0 - 1) → (i k : ℕ) → i ≡ f → k ≡ 0
-        → (links : List Link) (lists : List Lru) → AllJoin m.links m.lists g i links lists → (run : KnownRun) → Notes t m.run (keep_steps c.number f) run
+        → (h : KnownCpuLists) → HandsOver f c h → sums' ≡ slice_set sums g (get_or sums g 0 - 1) → (i k : ℕ) → i ≡ f → k ≡ 0
+        → (links : List Link) (lists : List Lru) → AllJoin m.links m.lists g i links lists → (run : KnownRun) → Records t m.run (keep_steps c.number f) run
         → AllMoved t now c (KeepsFresh g f) (keep_steps c.number f)
         (record m { frame_states = slice_set m.frame_states i (Head (record { group = g; order = k })); links = links; lists = lists; run = run }) h free sums' owners
     keep_all free sums sums' owners is are own fits h hands fell i k index zero_is links lists joined_i run noted =
         let joined : AllJoin m.links m.lists g f links lists = subst (λ (j : ℕ). AllJoin m.links m.lists g j links lists) index joined_i in
         let last : h.fresh ≡ rest = tail_same f h.fresh rest (sym hands.front ∙ front) in
         let cpu : h ≡ record c { fresh = rest } = hands.cpu ∙ ap (λ (l : List ℕ). record c { fresh = l }) last in
-        subst (λ (x : KnownMachine × KnownMachine × KnownCpu × List ℕ). AllMoved t x.0 c (KeepsFresh g f) (keep_steps c.number f) x.1 x.2 free x.3 owners)
+        subst (λ (x : KnownMachine × KnownMachine × KnownCpuLists × List ℕ). AllMoved t x.0 c (KeepsFresh g f) (keep_steps c.number f) x.1 x.2 free x.3 owners)
         (λ j. (
           same j,
           record m { frame_states = slice_set m.frame_states (sym index j) (Head (record { group = g; order = sym zero_is j })); links = links; lists = lists; run = run },
@@ -474,10 +453,10 @@ module _ (t : KnownTable) (m now : KnownMachine) (same : m ≡ now) (c : KnownCp
     -- all of it, if it is dropped
     pub drop_all : (free now_free : List Bool) (sums sums' : List ℕ) (owners : List (Option ℕ)) → free ≡ free_of m.frame_states
         → AreBooked t.cpus (left_by t m.run.past).parts sums → AreOwners t.cpus (left_by t m.run.past).parts owners → g < most_groups
-        → is_killed now.killed g ≡ true → (h : KnownCpu) → HandsOver f c h → sums' ≡ slice_set sums g (get_or sums g 0 - 1) → (i k : ℕ) → i ≡ f → k ≡ 0
+        → is_killed now.killed g ≡ true → (h : KnownCpuLists) → HandsOver f c h → sums' ≡ slice_set sums g (get_or sums g 0 - 1) → (i k : ℕ) → i ≡ f → k ≡ 0
         → (new : List FrameState) → FreesFrames i (2 ^ k) m.frame_states new → (blocks : List Block) → GivesFrames free (record { at = i; order = k }) now_free
         → AreMaximalBlocks now_free blocks → (ledger : Ledger) → ledger ≡ with_uncharge m.ledger g (2 ^ k)
-        → (counts : Counts) → counts ≡ with_killed_fresh m.counts → (run : KnownRun) → Notes t m.run (drop_steps c.number f) run
+        → (counts : Counts) → counts ≡ with_killed_fresh m.counts → (run : KnownRun) → Records t m.run (drop_steps c.number f) run
         → AllMoved t now c (DropsFresh g f) (drop_steps c.number f)
         (record m { blocks = blocks; frame_states = new; ledger = ledger; counts = counts; run = run }) h now_free sums' owners
     drop_all free now_free sums sums' owners is are own fits killed_now h hands fell i k index zero_is new frees_i blocks gives_i areas ledger uncharges counts counted run noted =
@@ -491,7 +470,7 @@ module _ (t : KnownTable) (m now : KnownMachine) (same : m ≡ now) (c : KnownCp
         let last : h.fresh ≡ rest = tail_same f h.fresh rest (sym hands.front ∙ front) in
         let cpu : h ≡ record c { fresh = rest } = hands.cpu ∙ ap (λ (l : List ℕ). record c { fresh = l }) last in
         let one : ledger ≡ with_uncharge m.ledger g 1 = uncharges ∙ ap (λ (j : ℕ). with_uncharge m.ledger g (2 ^ j)) zero_is in
-        subst (λ (x : KnownMachine × KnownMachine × KnownCpu × List ℕ). AllMoved t x.0 c (DropsFresh g f) (drop_steps c.number f) x.1 x.2 now_free x.3 owners)
+        subst (λ (x : KnownMachine × KnownMachine × KnownCpuLists × List ℕ). AllMoved t x.0 c (DropsFresh g f) (drop_steps c.number f) x.1 x.2 now_free x.3 owners)
         (λ j. (
           same j,
           record m { blocks = blocks; frame_states = new; ledger = sym one j; counts = counts; run = run },

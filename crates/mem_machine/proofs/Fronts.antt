@@ -6,27 +6,27 @@ use Rattle.std.specs.List.{fold}
 use Rattle.std.specs.Prelude.{nat_le, nat_lt}
 use Rattle.std.proofs.lemmas.Bool.{and_from, false≢true, le-leb}
 use Rattle.std.proofs.lemmas.Option.{none-some}
-use Rattle.frame_word.specs.Seats.{KnownTable}
-use Rattle.stock_word.specs.declared.view.Stock.{Stock}
-use Rattle.stock_word.specs.declared.view.Stock.TheVariants.{HeldBy}
-use Rattle.stock_word.specs.Stock.{group_of, is_held, stock_pages_of}
+use Rattle.stock_word.specs.declared.stock.Stock.{Stock}
+use Rattle.stock_word.specs.declared.stock.Stock.TheVariants.{HeldBy}
+use Rattle.stock_word.specs.Stock.{group_of, is_held, stock_pages_of, group_base}
 use Rattle.group_charge.specs.Charges.{AreCharges, current_of}
+use Rattle.group_tree.specs.{is_in_subtree}
 use Rattle.step_rules.specs.declared.phase.Way.TheVariants.{OnList}
 use Rattle.step_rules.specs.declared.phase.Phase.TheVariants.{Lent}
 use Rattle.step_rules.specs.declared.step.Action.TheVariants.{Consume}
 use Rattle.step_rules.specs.declared.step.Answer.TheVariants.{Took}
-use Rattle.step_rules.specs.{Part, Zone, front_of, is_cpu, one_if, times, visits, is_in_subtree, Run, after, consumed, paid, with_part, with_phase}
+use Rattle.step_rules.specs.{Part, Zone, front_of, is_cpu, one_if, times, visits, Run, after, consumed, paid, with_part, with_phase, cpu_makes}
 use Rattle.step_rules.specs.{IsAnswer, is_legal, IsLocalStep, other_part_seen}
 use Rattle.step_rules.specs.State.{State, sum_to}
 use Rattle.step_rules.proofs.Basics.{at_each, at_same}
 use Rattle.step_rules.proofs.Lists.{front_stands, length_last, times_same}
-use Rattle.boot_words.specs.{hide, hide_phase, KnownPasts, MakesStep, MayMake, cpu_past, zone_of_boot, stock_in, stock_said}
-use Rattle.cpu_part.specs.{TakesFront, KnownCpu, HasOwn}
+use Rattle.boot_words.specs.{hide, hide_phase, KnownPasts, MakesStep, MayMake, cpu_past, zone_of_boot, stock_in, stock_said, KnownTable}
+use Rattle.cpu_part.specs.{TakesFront, KnownCpuLists, HasOwn}
 use Rattle.cpu_part.proofs.Owning.{own_took}
-use Rattle.step_watch.specs.Watched.{KnownWatch, Watches, cpu_makes}
+use Rattle.step_watch.specs.Watched.{KnownWatch, Watches}
 use Rattle.mem_machine.specs.declared.machine.Machine.TheInside.{Inside}
 use Rattle.mem_machine.specs.{frame_state_at, frame_state_group, IsSoundMachine, machine_of, Makes, Visits, local_of, visit_state, KnownMachine}
-use Rattle.mem_machine.specs.{IsConsistent, left_by, KnownRun, Notes, after_made, HasRoomFor, HoldsPage, IsOfSize, PaysForFront, stock_now}
+use Rattle.mem_machine.specs.{IsConsistent, left_by, KnownRun, Records, after_made, HasRoomFor, HoldsPage, IsOfSize, PaysForFront, stock_now}
 use Rattle.mem_machine.specs.{take_front_steps}
 use Rattle.mem_machine.proofs.Followed.{follows_same}
 use Rattle.mem_machine.proofs.Ledgers.{ledger_visit_state}
@@ -64,7 +64,7 @@ usage_small t m ok charges g =
     let both = ledger_visit_state t m ok charges g in
     omega (arith, charged, booked, both)
 
-pub room_for : (t : KnownTable) (m now : KnownMachine) → m ≡ now → IsConsistent t m → AreCharges m.ledger → IsOfSize t → (pages : ℕ) → pages < 65536 → HasRoomFor now pages
+pub room_for : (t : KnownTable) (m now : KnownMachine) → m ≡ now → IsConsistent t m → AreCharges m.ledger → IsOfSize t → (pages : ℕ) → pages < group_base → HasRoomFor now pages
 room_for t m now same ok charges size pages few =
     let small = subst (λ (x : KnownMachine). current_of x.ledger 0 ≤ t.frames * 1 + (t.cpus + 1) * 65535) same (usage_small t m ok charges 0) in
     let frames = size.frames in
@@ -111,7 +111,7 @@ consume_hides s p g was some =
 
 -- ---- the front that is paid for
 
-module _ (t : KnownTable) (m : KnownMachine) (c : KnownCpu) (visit : Visits t m c) (g : ℕ) (page : HoldsPage t m c.number g) (none : c.fresh ≡ [])
+module _ (t : KnownTable) (m : KnownMachine) (c : KnownCpuLists) (visit : Visits t m c) (g : ℕ) (page : HoldsPage t m c.number g) (none : c.fresh ≡ [])
     (some : 1 ≤ length c.list) where
   -- the front is on the CPU's list, once
   front_phase : (local_of t m).phases (front_of ((local_of t m).parts c.number).list) ≡ Lent c.number OnList
@@ -149,19 +149,19 @@ module _ (t : KnownTable) (m : KnownMachine) (c : KnownCpu) (visit : Visits t m 
       let listed = has.listed in
       omega (arith, listed, one, count, own)
 
-  module _ (run : KnownRun) (noted : Notes t m.run (take_front_steps c.number g) run) where
+  module _ (run : KnownRun) (noted : Records t m.run (take_front_steps c.number g) run) where
     front_left : left_by t run.past ≡ left_by t m.run.past
     front_left =
         left_then t m (take_front_steps c.number g) run visit.held noted
         ∙ consume_hides (local_of t m) c.number g front_phase (pays (local_of t m) c.number g page.0 page.1).2
         ∙ sym (left_seen t m.run.past visit.held)
 
-    module _ (f : ℕ) (d : KnownCpu) (takes : TakesFront f c d) where
+    module _ (f : ℕ) (d : KnownCpuLists) (takes : TakesFront f c d) where
       paid_now : (local_of t (record m { run = run })).parts c.number ≡ paid ((local_of t m).parts c.number)
       paid_now = ap (λ (s : State). s.parts c.number) (noted.grew.sees visit.held) ∙ at_same (local_of t m).parts c.number (paid ((local_of t m).parts c.number))
 
       number_same : d.number ≡ c.number
-      number_same = ap (λ (x : KnownCpu). x.number) takes.2
+      number_same = ap (λ (x : KnownCpuLists). x.number) takes.2
 
       front_pays : PaysForFront t g f (visit_state m c) (visit_state (record m { run = run }) d)
       front_pays = record {
@@ -176,7 +176,7 @@ module _ (t : KnownTable) (m : KnownMachine) (c : KnownCpu) (visit : Visits t m 
       front_visit =
           let later = sym (noted.grew.sees visit.held) in
           let own = own_took (local_of t m) c visit.own g f takes.0 (c.fresh ++ f ∷ []) takes.1 refl (front_once f takes.0 takes.1) in
-          subst (λ (x : KnownCpu). Visits t (record m { run = run }) x) (sym takes.2) (record {
+          subst (λ (x : KnownCpuLists). Visits t (record m { run = run }) x) (sym takes.2) (record {
             held = noted.grew.held visit.held;
             who = noted.grew.holder visit.held ∙ visit.who;
             is_open = subst (λ (s : State). visits c.number s.hold ≡ true) later visit.is_open;
@@ -188,13 +188,13 @@ module _ (t : KnownTable) (m : KnownMachine) (c : KnownCpu) (visit : Visits t m 
           (one_leads c.number (local_of t m) (cpu_makes c.number (Consume g) Took) consume_step) (follows_same (local_of t m) m.ledger (take_front_steps c.number g) refl) refl
 
 -- all of it, of the machine as it was seen before
-pub record FrontPaid (t : KnownTable) (now : KnownMachine) (g f : ℕ) (c : KnownCpu) (n : KnownMachine) (d : KnownCpu) : Type 0 where
+pub record FrontPaid (t : KnownTable) (now : KnownMachine) (g f : ℕ) (c : KnownCpuLists) (n : KnownMachine) (d : KnownCpuLists) : Type 0 where
   pub pays : PaysForFront t g f (visit_state now c) (visit_state n d)
   pub visit : Visits t n d
   pub steps : Makes t now (take_front_steps c.number g) n
 
-pub front_paid : (t : KnownTable) (m now : KnownMachine) → m ≡ now → (c : KnownCpu) → Visits t now c → (g f : ℕ) → HoldsPage t now c.number g → c.fresh ≡ []
-    → 1 ≤ length c.list → (d : KnownCpu) → TakesFront f c d → (run : KnownRun) → Notes t m.run (take_front_steps c.number g) run → FrontPaid t now g f c (record m { run = run }) d
+pub front_paid : (t : KnownTable) (m now : KnownMachine) → m ≡ now → (c : KnownCpuLists) → Visits t now c → (g f : ℕ) → HoldsPage t now c.number g → c.fresh ≡ []
+    → 1 ≤ length c.list → (d : KnownCpuLists) → TakesFront f c d → (run : KnownRun) → Records t m.run (take_front_steps c.number g) run → FrontPaid t now g f c (record m { run = run }) d
 front_paid t m now same c visit_now g f page_now none some d takes run noted =
     let visit : Visits t m c = subst (λ (x : KnownMachine). Visits t x c) (sym same) visit_now in
     let page : HoldsPage t m c.number g = subst (λ (x : KnownMachine). HoldsPage t x c.number g) (sym same) page_now in
@@ -206,15 +206,15 @@ front_paid t m now same c visit_now g f page_now none some d takes run noted =
 
 -- the step as it was made
 pub front_noted : (t : KnownTable) (run : KnownRun) (p g n h : ℕ) → n ≡ p → h ≡ g → (later : KnownPasts) (watch : KnownWatch) → MakesStep t run.past p (Consume h) Took later
-    → Watches run.watch (cpu_makes n (Consume g) Took ∷ []) watch → Notes t run (take_front_steps p g) (record { past = later; watch = watch })
+    → Watches run.watch (cpu_makes n (Consume g) Took ∷ []) watch → Records t run (take_front_steps p g) (record { past = later; watch = watch })
 front_noted t run p g n h number group later watch made saw =
     notes_one t run (cpu_makes p (Consume g) Took) (record { past = later; watch = watch })
     (subst (λ (k : ℕ). MakesStep t run.past p (Consume k) Took later) group made)
     (subst (λ (k : ℕ). Watches run.watch (cpu_makes k (Consume g) Took ∷ []) watch) number saw)
 
 -- the fields after it
-pub front_sound : {N : Type 0} (t : KnownTable) (fields : Inside N) → IsSoundMachine t fields → (now : KnownMachine) → machine_of fields ≡ now → (c : KnownCpu) → Visits t now c
-    → (g : ℕ) → HoldsPage t now c.number g → c.fresh ≡ [] → 1 ≤ length c.list → (run : KnownRun) → Notes t (machine_of fields).run (take_front_steps c.number g) run
+pub front_sound : {N : Type 0} (t : KnownTable) (fields : Inside N) → IsSoundMachine t fields → (now : KnownMachine) → machine_of fields ≡ now → (c : KnownCpuLists) → Visits t now c
+    → (g : ℕ) → HoldsPage t now c.number g → c.fresh ≡ [] → 1 ≤ length c.list → (run : KnownRun) → Records t (machine_of fields).run (take_front_steps c.number g) run
     → IsSoundMachine {N = N} t (record fields { past = run.past; watch = run.watch })
 front_sound {N} t fields ok now same c visit g page none some run noted =
     sound_same t fields ok run (front_left t (machine_of fields) c (subst (λ (x : KnownMachine). Visits t x c) (sym same) visit) g

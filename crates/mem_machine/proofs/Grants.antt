@@ -9,7 +9,6 @@ use Rattle.zone_blocks.specs.declared.block.Block.{Block}
 use Rattle.zone_blocks.specs.{IsBlock, Covers, IsFreeBlock, HasNoneFrom}
 use Rattle.zone_blocks.proofs.Nested.{greater_denied}
 use Rattle.zone_blocks.proofs.Unique.{in_maximal}
-use Rattle.frame_word.specs.Seats.{KnownTable}
 use Rattle.group_tree.specs.declared.group.Group.{Group}
 use Rattle.group_tree.specs.Groups.{has_group, limit_of}
 use Rattle.group_tree.specs.Room as room
@@ -21,7 +20,7 @@ use Rattle.step_rules.specs.State.{State}
 use Rattle.step_rules.specs.{Zone, with_at, free_in, usage_of, after, is_legal, IsLocalStep}
 use Rattle.step_rules.proofs.Basics.{at_same, at_other}
 use Rattle.step_rules.proofs.Placing.{block_free}
-use Rattle.boot_words.specs.{hide, IsHeld}
+use Rattle.boot_words.specs.{hide, IsHeld, KnownTable}
 use Rattle.mem_machine.specs.{free_of, KnownMachine, IsConsistent, IsShownBy, is_killed, local_of}
 use Rattle.mem_machine.proofs.Hiding.{is_free_seen}
 use Rattle.mem_machine.proofs.Made.{zone_acts, zone_seen}

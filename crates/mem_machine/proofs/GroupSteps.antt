@@ -9,23 +9,21 @@ use Rattle.group_tree.specs.declared.event.EventKey.TheVariants.{OomKill, OomGro
 use Rattle.group_tree.specs.declared.fault.Fault.{Fault}
 use Rattle.group_tree.specs.declared.group.Group.{Group}
 use Rattle.group_tree.specs.{most_groups, has_child, has_group, make_fault, IsLeastFreeNumber}
-use Rattle.group_charge.specs.declared.settings.Settings.{Settings}
+use Rattle.group_charge.specs.declared.settings.ReclaimSettings.{ReclaimSettings}
 use Rattle.group_charge.specs.Charges.{Ledger, AreCharges, CountsEvent, SamePages, SamePeaks, account_at, current_of, pages_of, with_settings}
 use Rattle.group_charge.specs.Charges.{with_new_group, with_group_removed, with_group_limit, with_oom_flag}
-use Rattle.frame_word.specs.Seats.{KnownTable}
 use Rattle.step_rules.specs.declared.step.Step.{Step}
 use Rattle.step_rules.specs.declared.step.NoteKey.{NoteKey}
 use Rattle.step_rules.specs.declared.step.Action.{Action}
 use Rattle.step_rules.specs.declared.step.Action.TheVariants.{Kill, Make, Note, NoteGroupKill, Remove, SetFlag, SetMax}
 use Rattle.step_rules.specs.declared.step.Answer.{Answer}
 use Rattle.step_rules.specs.declared.step.Answer.TheVariants.{Done, Number}
-use Rattle.step_rules.specs.{event_key, event_of, IsLocalStep, is_removable, with_at, usage_of}
+use Rattle.step_rules.specs.{event_key, event_of, IsLocalStep, is_removable, with_at, usage_of, zone_makes}
 use Rattle.step_rules.specs.State.{State}
 use Rattle.step_rules.proofs.Basics.{at_each}
-use Rattle.boot_words.specs.{hide, IsHeld, HasSameLists}
+use Rattle.boot_words.specs.{hide, IsHeld, HasSameLists, KnownTable}
 use Rattle.mem_machine.specs.{AreBooked, AreOwners, counts_along, FollowsSteps, Makes, StaysVisited, lock_holder, local_of, KnownMachine, AddsGroup}
-use Rattle.mem_machine.specs.{IsConsistent, IsShownBy, is_killed, left_by, KnownRun, MayTake, Notes, after_made}
-use Rattle.mem_machine.specs.Steps.{zone_makes}
+use Rattle.mem_machine.specs.{IsConsistent, IsShownBy, is_killed, left_by, KnownRun, MayTake, Records, after_made}
 use Rattle.mem_machine.proofs.LedgerMoves.{follows_flag, follows_limit, follows_make, follows_note, follows_remove, follows_settings}
 use Rattle.mem_machine.proofs.Made.{makes, one_leads, stays_visited, zone_acts}
 use Rattle.mem_machine.proofs.Noted.{notes_none}
@@ -58,7 +56,7 @@ pub may_group : (t : KnownTable) (m : KnownMachine) (made : Step × Answer) (l :
 may_group t m made l marks is = is.step
 
 module _ (t : KnownTable) (m : KnownMachine) (ok : IsConsistent t m) (is : IsHeld t m.run.past) (made : Step × Answer) (l : Ledger) (marks : List Bool)
-    (group : IsGroupStep t m made l marks) (pages : SamePages m.ledger l) (sized : length marks ≡ most_groups) (run : KnownRun) (noted : Notes t m.run (made ∷ []) run) where
+    (group : IsGroupStep t m made l marks) (pages : SamePages m.ledger l) (sized : length marks ≡ most_groups) (run : KnownRun) (noted : Records t m.run (made ∷ []) run) where
   abbrev then : KnownMachine
   then = record m { ledger = l; killed = marks; run = run }
 
@@ -229,7 +227,7 @@ module _ (t : KnownTable) (m now : KnownMachine) (same : m ≡ now) (ok : IsCons
 -- ---- no step
 
 -- what is set for a group binds no step
-pub settings_consistent : (t : KnownTable) (m : KnownMachine) (l : Ledger) (g : ℕ) (settings : Settings) → l ≡ with_settings m.ledger g settings
+pub settings_consistent : (t : KnownTable) (m : KnownMachine) (l : Ledger) (g : ℕ) (settings : ReclaimSettings) → l ≡ with_settings m.ledger g settings
     → IsConsistent t m → IsConsistent t (record m { ledger = l })
 unfolding pages_of account_at
 settings_consistent t m l g settings set ok = subst (λ (k : Ledger). IsConsistent t (record m { ledger = k })) (sym set) (record {
@@ -251,7 +249,7 @@ settings_consistent t m l g settings set ok = subst (λ (k : Ledger). IsConsiste
   };
 })
 
-pub settings_make : (t : KnownTable) (m : KnownMachine) (g : ℕ) (settings : Settings) → Makes t m [] (record m { ledger = with_settings m.ledger g settings })
+pub settings_make : (t : KnownTable) (m : KnownMachine) (g : ℕ) (settings : ReclaimSettings) → Makes t m [] (record m { ledger = with_settings m.ledger g settings })
 settings_make t m g settings = record {
   holder = refl;
   leads = refl;

@@ -14,10 +14,10 @@ use Rattle.step_rules.specs.declared.step.Answer.{Answer}
 use Rattle.step_rules.specs.declared.step.Answer.TheVariants.{Done, Pages}
 use Rattle.step_rules.specs.Phases as phases
 use Rattle.step_rules.specs.State.{State}
-use Rattle.step_rules.specs.{Part, front_of, with_at, is_cpu, is_frame, visits, may_zone_act, one_if, is_legal, Run, after, without_frame}
-use Rattle.step_rules.specs.{without_unit, IsLocalStep, IsLocalRun}
+use Rattle.step_rules.specs.{Part, front_of, with_at, is_cpu, is_frame, visits, may_zone_act, one_if, is_legal, Run, after, without_frame, cpu_makes}
+use Rattle.step_rules.specs.{without_unit, IsLocalStep, IsLocalRun, zone_makes}
 use Rattle.step_rules.proofs.Basics.{at_same}
-use Rattle.mem_machine.specs.Steps.{zone_makes, cpu_makes, unlist_steps}
+use Rattle.mem_machine.specs.Steps.{unlist_steps}
 use Rattle.mem_machine.specs.Settling.{collect_steps, return_steps}
 use Rattle.mem_machine.proofs.Reaching.{zone_step, cpu_step}
 

@@ -11,7 +11,7 @@ use Rattle.step_rules.specs.{no_frame_passes, nothing_passes, rests, is_free, is
 use Rattle.step_rules.specs.State.{State}
 use Rattle.step_rules.proofs.Sums.{all_each}
 use Rattle.boot_words.specs.Hidden.{hide, hide_phase}
-use Rattle.frame_word.specs.Seats.{KnownTable}
+use Rattle.boot_words.specs.Tables.{KnownTable}
 use Rattle.mem_machine.specs.declared.frame_state.FrameState.{FrameState}
 use Rattle.mem_machine.specs.declared.frame_state.FrameState.TheVariants.{Free, Lent, Head, Tail}
 use Rattle.mem_machine.specs.{frame_state_at, is_free_state, phase_hidden, KnownMachine, IsShownBy}

@@ -1,7 +1,6 @@
 -- A visit is opened and shut. Serves `open` and `shut`.
 use Rattle.std.proofs.Common.{◌≡◌, ℕ, ◌+◌, ◌==◌, ◌&&◌, Bool, true, Option, List, [], ◌∷◌, refl, sym, ap, ◌∙◌, subst, arith, eq-eqb}
 use Rattle.std.proofs.lemmas.Bool.{and_from}
-use Rattle.frame_word.specs.Seats.{KnownTable}
 use Rattle.step_rules.specs.declared.phase.Hold.{Hold}
 use Rattle.step_rules.specs.declared.phase.Hold.TheVariants.{HeldBy, Visiting}
 use Rattle.step_rules.specs.declared.step.Step.{Step}
@@ -11,9 +10,10 @@ use Rattle.step_rules.specs.declared.step.Answer.TheVariants.{Done}
 use Rattle.step_rules.specs.{told_pages, IsLocalStep, is_legal, is_held_by, visits}
 use Rattle.step_rules.specs.State.{State}
 use Rattle.boot_words.specs.Hidden.{hide}
-use Rattle.cpu_part.specs.{KnownCpu, HasOwn}
+use Rattle.boot_words.specs.Tables.{KnownTable}
+use Rattle.cpu_part.specs.{KnownCpuLists, HasOwn}
 use Rattle.mem_machine.specs.{counts_along, IsSoundMachine, machine_of, Holds, IsShut, Makes, Visits, lock_holder, local_of, KnownMachine, IsShownBy}
-use Rattle.mem_machine.specs.{with_run, KnownRun, Notes, after_made, open_steps, shut_steps}
+use Rattle.mem_machine.specs.{with_run, KnownRun, Records, after_made, open_steps, shut_steps}
 use Rattle.mem_machine.specs.declared.machine.Machine.TheInside.{Inside}
 use Rattle.mem_machine.proofs.Followed.{are_still, follows_same}
 use Rattle.mem_machine.proofs.Hiding.{nothing_passes_here}
@@ -25,9 +25,9 @@ use Rattle.mem_machine.proofs.Staying.{HaveSameBooks, owners_stay, sums_stay}
 
 -- ---- a step that changes who holds the lock, and nothing else
 
-module _ {N : Type 0} (t : KnownTable) (fields : Inside N) (ok : IsSoundMachine t fields) (c : KnownCpu) (holds : Holds t (machine_of fields) c)
+module _ {N : Type 0} (t : KnownTable) (fields : Inside N) (ok : IsSoundMachine t fields) (c : KnownCpuLists) (holds : Holds t (machine_of fields) c)
     (e : Step × Answer) (hold : Hold) (only : after_made (local_of t (machine_of fields)) e ≡ record (local_of t (machine_of fields)) { hold = hold })
-    (run : KnownRun) (noted : Notes t (machine_of fields).run (e ∷ []) run) where
+    (run : KnownRun) (noted : Records t (machine_of fields).run (e ∷ []) run) where
   abbrev m : KnownMachine
   m = machine_of {N = N} fields
 
@@ -74,7 +74,7 @@ module _ {N : Type 0} (t : KnownTable) (fields : Inside N) (ok : IsSoundMachine 
 
 -- ---- the two steps
 
-module _ {N : Type 0} (t : KnownTable) (fields : Inside N) (ok : IsSoundMachine t fields) (c : KnownCpu) (holds : Holds t (machine_of fields) c) where
+module _ {N : Type 0} (t : KnownTable) (fields : Inside N) (ok : IsSoundMachine t fields) (c : KnownCpuLists) (holds : Holds t (machine_of fields) c) where
   pub may_open : IsShut t (machine_of fields) c.number → IsLocalStep (local_of t (machine_of fields)) (lock_holder (machine_of fields)) 0 (OpenVisit c.number) Done
   may_open shut = zone_step (local_of t (machine_of {N = N} fields)) (lock_holder (machine_of {N = N} fields)) (OpenVisit c.number) Done refl
       (and_from _ _ (zone_acts t fields.past holds.held) (ap (is_held_by c.number) shut ∙ eq-eqb c.number c.number refl)) tt
@@ -92,5 +92,5 @@ module _ {N : Type 0} (t : KnownTable) (fields : Inside N) (ok : IsSoundMachine 
       (eq-eqb _ 0 none.0)) (eq-eqb _ 0 none.1)) tt
 
 -- a visited CPU holds the lock
-pub visit_holds : (t : KnownTable) (m : KnownMachine) (c : KnownCpu) → Visits t m c → Holds t m c
+pub visit_holds : (t : KnownTable) (m : KnownMachine) (c : KnownCpuLists) → Visits t m c → Holds t m c
 visit_holds t m c visit = record { held = visit.held; who = visit.who; own = visit.own }

@@ -14,7 +14,7 @@ use Rattle.group_tree.specs.{one_more}
 use Rattle.group_tree.proofs.EventLemmas.{counted, none_counted}
 use Rattle.group_tree.proofs.GroupLemmas.{find-filter, is_some-find}
 use Rattle.group_charge.specs.declared.account.Account.{Account}
-use Rattle.group_charge.specs.declared.settings.Settings.{Settings}
+use Rattle.group_charge.specs.declared.settings.ReclaimSettings.{ReclaimSettings}
 use Rattle.group_charge.specs.Charges.{Ledger, AreCharges, SamePeaks, SameEvents, CountsEvent, current_of, peak_of, events_of, events_local_of, account_at}
 use Rattle.group_charge.specs.Charges.{with_settings, empty_account, with_charge, with_new_group, with_group_removed, with_group_limit, with_oom_flag}
 use Rattle.group_charge.proofs.CallerLemmas.{charge_rises, charge_peaks, charge_events, has_account}
@@ -22,12 +22,12 @@ use Rattle.step_rules.specs.declared.step.Action.{Action}
 use Rattle.step_rules.specs.declared.step.Action.TheVariants.{Grant, Make}
 use Rattle.step_rules.specs.declared.step.Answer.TheVariants.{Done, Granted}
 use Rattle.step_rules.specs.State.{State}
-use Rattle.step_rules.specs.{Run, after, peak_follows, usage_of, event_of, count_after, is_noted_in_subtree, is_noted_at, makes_group}
+use Rattle.step_rules.specs.{Run, after, peak_follows, usage_of, event_of, count_after, is_noted_in_subtree, is_noted_at, makes_group, zone_makes}
 use Rattle.step_rules.proofs.CallerLemmas.{noted_below_so, noted_at_so}
 use Rattle.step_rules.proofs.Homes.{number_low}
 use Rattle.step_rules.proofs.Moving.{gone_itself, pending_moves, pends_split}
 use Rattle.mem_machine.specs.Following.{FollowsSteps}
-use Rattle.mem_machine.specs.Steps.{zone_makes, make_steps, remove_steps, set_max_steps, set_oom_group_steps}
+use Rattle.mem_machine.specs.Steps.{make_steps, remove_steps, set_max_steps, set_oom_group_steps}
 use Rattle.mem_machine.proofs.Followed.{Test, are_still, peak_still, below_still, at_still, follows_still}
 
 -- ---- a grant
@@ -127,7 +127,7 @@ unfolding peak_of events_of events_local_of account_at
 follows_limit s l g limit = follows_still s l (set_max_steps g limit) (with_group_limit l g limit) refl (λ m. refl)
     (record { events = λ m. refl; events_local = λ m. refl })
 
-pub follows_settings : (s : State) (l : Ledger) (g : ℕ) (settings : Settings) → FollowsSteps s l [] (with_settings l g settings)
+pub follows_settings : (s : State) (l : Ledger) (g : ℕ) (settings : ReclaimSettings) → FollowsSteps s l [] (with_settings l g settings)
 unfolding peak_of events_of events_local_of account_at
 follows_settings s l g settings = follows_still s l [] (with_settings l g settings) refl (λ m. refl)
     (record { events = λ m. refl; events_local = λ m. refl })

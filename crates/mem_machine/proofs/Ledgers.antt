@@ -13,9 +13,10 @@ use Rattle.group_tree.specs.Groups.{the_root, in_subtree}
 use Rattle.group_charge.specs.declared.account.Account.{Account}
 use Rattle.group_charge.specs.Charges.{Ledger, AreCharges, current_of, usage_charged, pages_of, account_at}
 use Rattle.group_charge.proofs.ChargeLemmas.{all_distinct, as_many}
-use Rattle.frame_word.specs.Seats.{KnownTable}
-use Rattle.step_rules.specs.{Part, one_if, sum_to, is_in_subtree}
+use Rattle.group_tree.specs.{is_in_subtree}
+use Rattle.step_rules.specs.{Part, one_if, sum_to}
 use Rattle.step_rules.proofs.Sums.{sum_same, sum_none, sum_both, sum_part, sum_swap, sum_only}
+use Rattle.boot_words.specs.Tables.{KnownTable}
 use Rattle.mem_machine.specs.declared.frame_state.FrameState.{FrameState}
 use Rattle.mem_machine.specs.{frame_state_at, frame_state_group, one_if_is, KnownMachine, IsConsistent, booked, left_by, pages_booked}
 

@@ -8,7 +8,6 @@ use Rattle.std.proofs.lemmas.List.{get_or-set_other, get_or-set_same, length-set
 use Rattle.std.proofs.lemmas.Option.{none-some}
 use Rattle.zone_blocks.specs.declared.block.Block.{Block}
 use Rattle.zone_blocks.specs.{AreMaximalBlocks, HasNoneFrom, IsFree, IsFrontOfSmallest, TakesFrames}
-use Rattle.frame_word.specs.Seats.{KnownTable}
 use Rattle.lru_lists.specs.declared.record.Home.{Home}
 use Rattle.step_rules.specs.declared.phase.Way.TheVariants.{OnList, PassingOut}
 use Rattle.step_rules.specs.declared.phase.Phase.{Phase}
@@ -19,21 +18,19 @@ use Rattle.step_rules.specs.Phases as phases
 use Rattle.step_rules.specs.{told_pages, Part, Zone, is_frame, with_at, is_legal, Run, after, with_listed, IsLocalRun}
 use Rattle.step_rules.specs.State.{State}
 use Rattle.step_rules.proofs.Basics.{at_other, at_same}
-use Rattle.boot_words.specs.{AreLegal, MakesInTurn, hide, hide_phase, KnownPasts, IsHeld}
-use Rattle.cpu_part.specs.Cpus.{KnownCpu}
-use Rattle.cpu_part.proofs.CallerLemmas.{makes_each}
-use Rattle.step_watch.specs.Watched.{KnownWatch, Watches}
+use Rattle.boot_words.specs.{AreLegal, hide, hide_phase, KnownTable}
+use Rattle.cpu_part.specs.Cpus.{KnownCpuLists}
 use Rattle.mem_machine.specs.declared.frame_state.FrameState.{FrameState}
 use Rattle.mem_machine.specs.declared.frame_state.FrameState.TheVariants.{Free, Lent, Head, Tail}
 use Rattle.mem_machine.specs.{AreBooked, AreOwners, counts_along, frame_state_at, frame_state_group, free_of, head_group_of, is_free_state}
 use Rattle.mem_machine.specs.{phase_hidden, LendsFrame, LendsNone, LendsOne, Visits, local_of, visit_state, KnownMachine, VisitState, FitsFrameState}
-use Rattle.mem_machine.specs.{IsConsistent, IsShownBy, home_of, left_by, pages_booked, AreLocal, KnownRun, Notes, after_made, lend_steps}
+use Rattle.mem_machine.specs.{IsConsistent, IsShownBy, home_of, left_by, pages_booked, AreLocal, KnownRun, Records, after_made, lend_steps}
 use Rattle.mem_machine.proofs.Followed.{are_still, follows_same}
 use Rattle.mem_machine.proofs.HandOvers.{IsVisited}
 use Rattle.mem_machine.proofs.Hiding.{is_free_seen}
 use Rattle.mem_machine.proofs.Made.{visits_here, zone_seen}
 use Rattle.mem_machine.proofs.Moved.{AllMoved, books_stay, is_visited, left_moved, makes_moved, number_range, own_moved, owners_moved, shown_moved, sums_moved, visit_moved}
-use Rattle.mem_machine.proofs.Noted.{all_grow, local_legal}
+use Rattle.mem_machine.proofs.Noted.{local_legal}
 use Rattle.mem_machine.proofs.Reaching.{cpu_step, zone_step}
 use Rattle.mem_machine.proofs.Records.{charges_stay, covers_one, free_at, free_inside, free_is, free_taken, units_stay}
 use Rattle.mem_machine.proofs.Sight.{left_seen, shown_seen}
@@ -51,7 +48,7 @@ unheaded (Lent q) is = refl
 unheaded (Head unit) is = is
 unheaded (Tail g) is = refl
 
-module _ (t : KnownTable) (m : KnownMachine) (c : KnownCpu) (ok : IsConsistent t m) (visit : Visits t m c) (f : ℕ) (inside : f < t.frames)
+module _ (t : KnownTable) (m : KnownMachine) (c : KnownCpuLists) (ok : IsConsistent t m) (visit : Visits t m c) (f : ℕ) (inside : f < t.frames)
     (r : FrameState) (was : frame_state_group (frame_state_at m.frame_states f) ≡ None) (now : frame_state_group r ≡ None)
     (ph : ℕ → Phase) (phases_are : (y : ℕ) → hide_phase (ph y) ≡ phase_hidden (frame_state_at (slice_set m.frame_states f r) y))
     (part : Part) (told : told_pages part ≡ told_pages ((local_of t m).parts c.number)) (book : part.book ≡ ((local_of t m).parts c.number).book)
@@ -59,7 +56,7 @@ module _ (t : KnownTable) (m : KnownMachine) (c : KnownCpu) (ok : IsConsistent t
     (list : List ℕ) (listed : part.list ≡ list) (fresh : part.fresh ≡ c.fresh) (back : part.back ≡ c.back)
     (steps : Run) (leads : IsLocalRun c.number (local_of t m) steps (record (local_of t m) { phases = ph; parts = with_at (local_of t m).parts c.number part; references = (local_of t m).references }))
     (still : are_still steps ≡ true) (counts : m.counts ≡ counts_along (local_of t m) steps m.counts)
-    (blocks : List Block) (areas : AreMaximalBlocks (free_of (slice_set m.frame_states f r)) blocks) (run : KnownRun) (noted : Notes t m.run steps run) where
+    (blocks : List Block) (areas : AreMaximalBlocks (free_of (slice_set m.frame_states f r)) blocks) (run : KnownRun) (noted : Records t m.run steps run) where
   abbrev s : State
   s = local_of t m
 
@@ -69,7 +66,7 @@ module _ (t : KnownTable) (m : KnownMachine) (c : KnownCpu) (ok : IsConsistent t
   abbrev n : KnownMachine
   n = record m { blocks = blocks; frame_states = slice_set m.frame_states f r; run = run }
 
-  abbrev d : KnownCpu
+  abbrev d : KnownCpuLists
   d = record c { list = list; fresh = c.fresh; back = c.back }
 
   within : f < length m.frame_states
@@ -129,7 +126,7 @@ module _ (t : KnownTable) (m : KnownMachine) (c : KnownCpu) (ok : IsConsistent t
 abbrev lend_state : State → ℕ → ℕ → State
 lend_state s p f = fold after_made s (lend_steps p f)
 
-module _ (t : KnownTable) (m : KnownMachine) (c : KnownCpu) (ok : IsConsistent t m) (visit : Visits t m c) (f : ℕ) (inside : f < t.frames)
+module _ (t : KnownTable) (m : KnownMachine) (c : KnownCpuLists) (ok : IsConsistent t m) (visit : Visits t m c) (f : ℕ) (inside : f < t.frames)
     (free : frame_state_at m.frame_states f ≡ Free) where
   framed : is_frame (local_of t m).zone f ≡ true
   framed = ap (λ (z : Zone). is_frame z f) (zone_seen t m.run.past) ∙ lt-ltb f t.frames inside
@@ -168,7 +165,7 @@ module _ (t : KnownTable) (m : KnownMachine) (c : KnownCpu) (ok : IsConsistent t
             ∙ (shown_seen t m ok visit.held).phases g ∙ sym (ap phase_hidden (get_or-set_other m.frame_states f g (Lent c.number) Free ne))
       ]
 
-  pub lent_moved : (blocks : List Block) → AreMaximalBlocks (free_of (slice_set m.frame_states f (Lent c.number))) blocks → (run : KnownRun) → Notes t m.run (lend_steps c.number f) run
+  pub lent_moved : (blocks : List Block) → AreMaximalBlocks (free_of (slice_set m.frame_states f (Lent c.number))) blocks → (run : KnownRun) → Records t m.run (lend_steps c.number f) run
       → (sums : List ℕ) (owners : List (Option ℕ)) → AreBooked t.cpus (left_by t m.run.past).parts sums → AreOwners t.cpus (left_by t m.run.past).parts owners
       → AllMoved t m c (LendsFrame f) (lend_steps c.number f) (record m { blocks = blocks; frame_states = slice_set m.frame_states f (Lent c.number); run = run })
       (record c { list = c.list ++ f ∷ [] }) (free_of (slice_set m.frame_states f (Lent c.number))) sums owners
@@ -180,7 +177,7 @@ module _ (t : KnownTable) (m : KnownMachine) (c : KnownCpu) (ok : IsConsistent t
 
 -- ---- of the machine as it was seen before
 
-module _ (t : KnownTable) (m now : KnownMachine) (same : m ≡ now) (c : KnownCpu) (visit : Visits t now c) (ok : IsConsistent t m) (f : ℕ) (inside : f < t.frames)
+module _ (t : KnownTable) (m now : KnownMachine) (same : m ≡ now) (c : KnownCpuLists) (visit : Visits t now c) (ok : IsConsistent t m) (f : ℕ) (inside : f < t.frames)
     (free_now : frame_state_at now.frame_states f ≡ Free) where
   free_here : frame_state_at m.frame_states f ≡ Free
   free_here = ap (λ (x : KnownMachine). frame_state_at x.frame_states f) same ∙ free_now
@@ -188,10 +185,10 @@ module _ (t : KnownTable) (m now : KnownMachine) (same : m ≡ now) (c : KnownCp
   pub may_lend : AreLegal (local_of t m) (lend_steps c.number f)
   may_lend = lend_legal t m c ok (visits_here t m now same c visit) f inside free_here
 
-  pub lent_all : (d : KnownCpu) (before free : List Bool) (blocks : List Block) (i q : ℕ) (sums : List ℕ) (owners : List (Option ℕ)) → before ≡ free_of m.frame_states
+  pub lent_all : (d : KnownCpuLists) (before free : List Bool) (blocks : List Block) (i q : ℕ) (sums : List ℕ) (owners : List (Option ℕ)) → before ≡ free_of m.frame_states
       → AreBooked t.cpus (left_by t m.run.past).parts sums → AreOwners t.cpus (left_by t m.run.past).parts owners
       → TakesFrames before (record { at = i; order = 0 }) free → AreMaximalBlocks free blocks → i ≡ f → q ≡ c.number → d ≡ record c { list = c.list ++ f ∷ [] }
-      → (run : KnownRun) → Notes t m.run (lend_steps c.number f) run
+      → (run : KnownRun) → Records t m.run (lend_steps c.number f) run
       → AllMoved t now c (LendsFrame f) (lend_steps c.number f) (record m { blocks = blocks; frame_states = slice_set m.frame_states i (Lent q); run = run }) d free sums owners
   lent_all d before free blocks i q sums owners was are own takes areas index number cpu run noted =
       let takes_f : TakesFrames before (record { at = f; order = 0 }) free = subst (λ (x : ℕ). TakesFrames before (record { at = x; order = 0 }) free) index takes in
@@ -200,7 +197,7 @@ module _ (t : KnownTable) (m now : KnownMachine) (same : m ≡ now) (c : KnownCp
       let free_is : free ≡ free_of (slice_set m.frame_states f (Lent c.number)) = free_taken before free m.frame_states f (Lent c.number) below was takes_f refl in
       let areas_f : AreMaximalBlocks (free_of (slice_set m.frame_states f (Lent c.number))) blocks = subst (λ (l : List Bool). AreMaximalBlocks l blocks) free_is areas in
       let all = lent_moved t m c ok (visits_here t m now same c visit) f inside free_here blocks areas_f run noted sums owners are own in
-      subst (λ (x : KnownMachine × KnownMachine × KnownCpu × List Bool). AllMoved t x.0 c (LendsFrame f) (lend_steps c.number f) x.1 x.2 x.3 sums owners)
+      subst (λ (x : KnownMachine × KnownMachine × KnownCpuLists × List Bool). AllMoved t x.0 c (LendsFrame f) (lend_steps c.number f) x.1 x.2 x.3 sums owners)
       (λ j. (same j, record m { blocks = blocks; frame_states = slice_set m.frame_states (sym index j) (Lent (sym number j)); run = run }, sym cpu j, sym free_is j)) all
 
   -- the zone's areas have the frame
@@ -211,22 +208,13 @@ module _ (t : KnownTable) (m now : KnownMachine) (same : m ≡ now) (c : KnownCp
       ap (λ (x : ℕ). get_or before x false) index ∙ ap (λ (l : List Bool). get_or l f false) was ∙ free_at m.frame_states f below ∙ ap is_free_state free_here
 
 -- the number of a visited CPU fits a byte
-pub number_low : (t : KnownTable) (m now : KnownMachine) → m ≡ now → (c : KnownCpu) → Visits t now c → c.number ≤ t.cpus
+pub number_low : (t : KnownTable) (m now : KnownMachine) → m ≡ now → (c : KnownCpuLists) → Visits t now c → c.number ≤ t.cpus
 number_low t m now same c visit = (number_range t m c (visits_here t m now same c visit)).1
-
--- the steps were made, and the watch took them
-pub lent_notes : (t : KnownTable) (run : KnownRun) (p f i q : ℕ) → i ≡ f → q ≡ p → (later : KnownPasts) (watch : KnownWatch) → IsHeld t run.past
-    → MakesInTurn t run.past (lend_steps p f) later → Watches run.watch (lend_steps q i) watch
-    → Notes t run (lend_steps p f) (record { past = later; watch = watch })
-lent_notes t run p f i q index number later watch held turn saw = record {
-  grew = all_grow t run.past (lend_steps p f) later (makes_each t run.past (lend_steps p f) later held turn);
-  watched = subst (λ (x : ℕ × ℕ). Watches run.watch (lend_steps x.1 x.0) watch) (λ j. (index j, number j)) saw;
-}
 
 -- ---- the first of the free frames
 
 -- there is no free frame
-pub lent_to_none : (m now : KnownMachine) → m ≡ now → (c : KnownCpu) (blocks : List Block) (k : ℕ) → k ≡ 0 → HasNoneFrom m.blocks k → blocks ≡ m.blocks
+pub lent_to_none : (m now : KnownMachine) → m ≡ now → (c : KnownCpuLists) (blocks : List Block) (k : ℕ) → k ≡ 0 → HasNoneFrom m.blocks k → blocks ≡ m.blocks
     → LendsNone (visit_state now c) (visit_state (record m { blocks = blocks }) c)
 lent_to_none m now same c blocks k zero_is none is = record {
   none = subst (λ (x : KnownMachine × ℕ). HasNoneFrom x.0.blocks x.1) (λ j. (same j, zero_is j)) none;
@@ -250,7 +238,7 @@ block_inside frame_states blocks before free k b was zero_is taken takes =
     taken_free before free frame_states b.at was (subst (λ (x : Block). TakesFrames before x free) (front_is k b blocks taken zero_is) takes)
 
 -- that frame is lent
-module _ (t : KnownTable) (m now : KnownMachine) (same : m ≡ now) (c : KnownCpu) (visit : Visits t now c) (ok : IsConsistent t m)
+module _ (t : KnownTable) (m now : KnownMachine) (same : m ≡ now) (c : KnownCpuLists) (visit : Visits t now c) (ok : IsConsistent t m)
     (before free : List Bool) (k : ℕ) (b : Block) (f : ℕ) (was : before ≡ free_of m.frame_states) (zero_is : k ≡ 0)
     (taken : IsFrontOfSmallest m.blocks k b) (takes : TakesFrames before b free) (at : f ≡ b.at) where
   block : b ≡ record { at = f; order = 0 }
@@ -268,9 +256,9 @@ module _ (t : KnownTable) (m now : KnownMachine) (same : m ≡ now) (c : KnownCp
   pub may_lend_first : AreLegal (local_of t m) (lend_steps c.number f)
   may_lend_first = may_lend t m now same c visit ok f first_inside first_free
 
-  pub first_lent : (d : KnownCpu) (blocks : List Block) (i q : ℕ) (sums : List ℕ) (owners : List (Option ℕ)) → AreBooked t.cpus (left_by t m.run.past).parts sums
+  pub first_lent : (d : KnownCpuLists) (blocks : List Block) (i q : ℕ) (sums : List ℕ) (owners : List (Option ℕ)) → AreBooked t.cpus (left_by t m.run.past).parts sums
       → AreOwners t.cpus (left_by t m.run.past).parts owners → AreMaximalBlocks free blocks → i ≡ f → q ≡ c.number → d ≡ record c { list = c.list ++ f ∷ [] }
-      → (run : KnownRun) → Notes t m.run (lend_steps c.number f) run
+      → (run : KnownRun) → Records t m.run (lend_steps c.number f) run
       → AllMoved t now c (LendsOne f) (lend_steps c.number f) (record m { blocks = blocks; frame_states = slice_set m.frame_states i (Lent q); run = run }) d free sums owners
   first_lent d blocks i q sums owners are own areas index number cpu run noted =
       let all = lent_all t m now same c visit ok f first_inside first_free d before free blocks i q sums owners was are own

@@ -2,8 +2,8 @@
 -- before, and the lists of all other groups stay. Serves all calls that change a list.
 use Rattle.std.proofs.Common.{◌≡◌, ◌≢◌, ℕ, ◌<◌, ◌==◌, ◌||◌, ◌⊎◌, Bool, true, false, Option, Some, None, List, [], ◌∷◌, ◌++◌, length, map, refl, sym, ap, ◌∙◌}
 use Rattle.std.proofs.Common.{subst, inl, inr, eq-eqb, cond, get_or, arith}
+use Rattle.boot_words.specs.Tables.{KnownTable}
 use Rattle.mem_machine.specs.FrameStates.{frame_state_at}
-use Rattle.frame_word.specs.Seats.{KnownTable}
 use Rattle.std.specs.Prelude.{is_some, option_map, slice_set}
 use Rattle.step_rules.specs.State.{one_if}
 use Rattle.std.proofs.lemmas.List.{get_or-set_other}

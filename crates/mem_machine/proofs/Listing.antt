@@ -3,12 +3,12 @@ use Rattle.std.proofs.Common.{◌≡◌, ℕ, ◌<◌, ◌==◌, ◌||◌, Bool,
 use Rattle.std.proofs.lemmas.Bool.{cases_eq, cases_lt, ne_eqb, or_parts, false≢true}
 use Rattle.std.proofs.lemmas.Option.{none-some}
 use Rattle.std.proofs.lemmas.List.{get_or_past}
-use Rattle.frame_word.specs.Seats.{KnownTable}
 use Rattle.lru_lists.specs.declared.record.Link.{Link}
 use Rattle.lru_lists.specs.declared.record.Home.{Home}
 use Rattle.lru_lists.specs.declared.record.Entry.{Entry}
 use Rattle.lru_lists.specs.declared.record.LruList.{LruList}
 use Rattle.lru_lists.specs.{link_at, nowhere, is_among, HasNoRepeats, units_of, entries_without, entry_after, first_entry, entry_of, queue_of}
+use Rattle.boot_words.specs.Tables.{KnownTable}
 use Rattle.mem_machine.specs.{KnownMachine, IsConsistent, home_of, lists_at, no_lists, entries_in}
 
 -- the unit of this number is among them

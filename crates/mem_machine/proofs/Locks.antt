@@ -2,7 +2,6 @@
 use Rattle.std.proofs.Common.{◌≡◌, ◌≢◌, ℕ, ◌≤◌, ◌==◌, ◌||◌, ◌&&◌, Bool, true, false, Option, List, [], ◌∷◌, ◌++◌, refl, sym, ap, ◌∙◌, subst, inl, inr, arith, eq-eqb}
 use Rattle.std.specs.Prelude.{not}
 use Rattle.std.proofs.lemmas.Bool.{and_from}
-use Rattle.frame_word.specs.Seats.{KnownTable}
 use Rattle.step_rules.specs.declared.phase.Hold.{Hold}
 use Rattle.step_rules.specs.declared.phase.Hold.TheVariants.{HeldBy, Unheld}
 use Rattle.step_rules.specs.declared.step.Action.TheVariants.{Unlock}
@@ -14,10 +13,10 @@ use Rattle.step_rules.proofs.Runs.{state_more}
 use Rattle.step_rules.proofs.Sums.{all_each}
 use Rattle.group_tree.specs.Bounds.{most_groups}
 use Rattle.boot_words.specs.{LeavesFree, HasSameLists, KnownPasts, IsHeld, IsZonePast, MayMake, Meets, Unlocks, cpu_past, local_by_pasts, own_past}
-use Rattle.boot_words.specs.{zone_of_boot, IsAwayCpu, KnownCpuSeat, state_left}
+use Rattle.boot_words.specs.{zone_of_boot, IsAwayCpu, KnownCpuSeat, state_left, KnownTable}
 use Rattle.boot_words.specs.Pasts.{Locks}
 use Rattle.boot_words.proofs.Owning.{lists_are_own}
-use Rattle.cpu_part.specs.{KnownCpu, HasOwn, KnowsItsPart}
+use Rattle.cpu_part.specs.{KnownCpuLists, HasOwn, KnowsItsPart}
 use Rattle.mem_machine.specs.declared.machine.Machine.TheInside.{Inside}
 use Rattle.mem_machine.specs.{AreBooked, AreOwners, IsSoundMachine, machine_of, KnownMachine, IsConsistent, IsShownBy, left_by, with_past, Holds}
 use Rattle.mem_machine.specs.{IsShut, local_of, Rests}
@@ -62,7 +61,7 @@ module _ {N : Type 0} (t : KnownTable) (fields : Inside N) (ok : IsSoundMachine 
 
 -- ---- what a CPU has for itself
 
-own_seen : (s : State) (c : KnownCpu) → HasOwn s c → HasOwn (seen_by c.number s) c
+own_seen : (s : State) (c : KnownCpuLists) → HasOwn s c → HasOwn (seen_by c.number s) c
 own_seen s c own = record {
   list = ap (λ (x : Part). x.list) (own_part c.number s.parts c.number refl) ∙ own.list;
   fresh = ap (λ (x : Part). x.fresh) (own_part c.number s.parts c.number refl) ∙ own.fresh;
@@ -70,7 +69,7 @@ own_seen s c own = record {
   references = λ f. own_reference c.number s.references c.number f (inr refl) ∙ own.references f;
 }
 
-seen_own : (s : State) (c : KnownCpu) → HasOwn (seen_by c.number s) c → HasOwn s c
+seen_own : (s : State) (c : KnownCpuLists) → HasOwn (seen_by c.number s) c → HasOwn s c
 seen_own s c own = record {
   list = ap (λ (x : Part). x.list) (sym (own_part c.number s.parts c.number refl)) ∙ own.list;
   fresh = ap (λ (x : Part). x.fresh) (sym (own_part c.number s.parts c.number refl)) ∙ own.fresh;
@@ -80,13 +79,13 @@ seen_own s c own = record {
 
 -- ---- the lock is taken
 
-module _ (t : KnownTable) (before : KnownPasts) (k : KnownCpuSeat) (c : KnownCpu) (after : KnownMachine) (knows : KnowsItsPart t k c) (locks : Locks t before k.seat after.run.past) where
+module _ (t : KnownTable) (before : KnownPasts) (k : KnownCpuSeat) (c : KnownCpuLists) (after : KnownMachine) (knows : KnowsItsPart t k c) (locks : Locks t before k.past after.run.past) where
   who_then : (cpu_past after.run.past).number ≡ c.number
   who_then = locks.cpu_grew.number ∙ sym knows.is.number ∙ knows.number
 
   pub locked_holds : Holds t after c
   locked_holds =
-      let q = (own_past k.seat).number in
+      let q = (own_past k.past).number in
       let same : q ≡ c.number = sym knows.is.number ∙ knows.number in
       let u = state_of (zone_of_boot t) (cpu_past after.run.past).seen in
       let lists : HasSameLists c.number (state_left t k) u = subst (λ (n : ℕ). HasSameLists n (state_left t k) u) same locks.own in
@@ -110,7 +109,7 @@ rests_at t u words m now same rests =
 
 -- ---- the lock is released
 
-module _ (t : KnownTable) (m : KnownMachine) (c : KnownCpu) (ok : IsConsistent t m) (holds : Holds t m c) (shut : IsShut t m c.number) where
+module _ (t : KnownTable) (m : KnownMachine) (c : KnownCpuLists) (ok : IsConsistent t m) (holds : Holds t m c) (shut : IsShut t m c.number) where
   pub may_unlock : MayMake t m.run.past c.number Unlock
   may_unlock =
       let s = local_of t m in
@@ -121,15 +120,15 @@ module _ (t : KnownTable) (m : KnownMachine) (c : KnownCpu) (ok : IsConsistent t
       (all_each most_groups (λ g. s.pending g == 0) (λ g inside. eq-eqb (s.pending g) 0 (shown.settled g))))
       (none_passes t m s shown)
 
-module _ (t : KnownTable) (before : KnownMachine) (c : KnownCpu) (zone : KnownPasts) (k : KnownCpuSeat) (holds : Holds t before c)
-    (unlocks : Unlocks t before.run.past zone k.seat) where
+module _ (t : KnownTable) (before : KnownMachine) (c : KnownCpuLists) (zone : KnownPasts) (k : KnownCpuSeat) (holds : Holds t before c)
+    (unlocks : Unlocks t before.run.past zone k.past) where
   pub unlocked_knows : IsAwayCpu t k → KnowsItsPart t k c
   unlocked_knows is =
       let z = zone_of_boot t in
       let p = cpu_past before.run.past in
       let between = unlocks.cpu_grew.between in
       let behind = p.seen ++ between in
-      let same : (own_past k.seat).number ≡ c.number = unlocks.cpu_grew.number ∙ holds.who in
+      let same : (own_past k.past).number ≡ c.number = unlocks.cpu_grew.number ∙ holds.who in
       let ne : p.number ≢ 0 = holds.held.holds.cpu_is in
       let lists : HasSameLists p.number (state_of z p.seen) (state_of z behind) =
       lists_are_own z p.seen behind p.number ne (record { rest = between; is = refl; others = unlocks.cpu_grew.others }) in
@@ -149,10 +148,10 @@ module _ (t : KnownTable) (before : KnownMachine) (c : KnownCpu) (zone : KnownPa
 
 -- ---- a CPU and the zone meet
 
-pub met_knows : (t : KnownTable) (zone zone' : KnownPasts) (k l : KnownCpuSeat) (c : KnownCpu) → KnowsItsPart t k c → Meets t zone k.seat zone' l.seat → IsAwayCpu t l → l.number ≡ k.number
+pub met_knows : (t : KnownTable) (zone zone' : KnownPasts) (k l : KnownCpuSeat) (c : KnownCpuLists) → KnowsItsPart t k c → Meets t zone k.past zone' l.past → IsAwayCpu t l → l.number ≡ k.number
     → KnowsItsPart t l c
 met_knows t zone zone' k l c knows meets is number =
-    let same : (own_past k.seat).number ≡ c.number = sym knows.is.number ∙ knows.number in
+    let same : (own_past k.past).number ≡ c.number = sym knows.is.number ∙ knows.number in
     record {
       is = is;
       number = number ∙ knows.number;

@@ -2,7 +2,6 @@
 use Rattle.std.proofs.Common.{◌≡◌, ℕ, true, [], ◌∷◌, refl, ap, sym, ◌∙◌, subst}
 use Rattle.std.specs.List.{fold}
 use Rattle.std.proofs.lemmas.Bool.{false≢true}
-use Rattle.frame_word.specs.Seats.{KnownTable}
 use Rattle.step_rules.specs.declared.phase.Hold.{Hold}
 use Rattle.step_rules.specs.declared.phase.Hold.TheVariants.{Unheld, HeldBy, Visiting}
 use Rattle.step_rules.specs.declared.step.Step.{Step}
@@ -11,9 +10,9 @@ use Rattle.step_rules.specs.State.{State}
 use Rattle.step_rules.specs.{Zone, is_cpu, may_zone_act, visits, IsLocalStep, Run, IsLocalRun, holds_lock}
 use Rattle.step_rules.proofs.Freeing.{zone_of_run}
 use Rattle.step_rules.proofs.Keeping.{keepers_are_there}
-use Rattle.boot_words.specs.{KnownPasts, IsHeld, cpu_past, local_by_pasts, zone_of_boot, HasSameLists}
-use Rattle.cpu_part.specs.{KnownCpu, HasOwn}
-use Rattle.mem_machine.specs.{counts_along, FollowsSteps, KnownRun, Notes, after_made, KnownMachine, Holds, Makes, StaysVisited, Visits, lock_holder}
+use Rattle.boot_words.specs.{KnownPasts, IsHeld, cpu_past, local_by_pasts, zone_of_boot, HasSameLists, KnownTable}
+use Rattle.cpu_part.specs.{KnownCpuLists, HasOwn}
+use Rattle.mem_machine.specs.{counts_along, FollowsSteps, KnownRun, Records, after_made, KnownMachine, Holds, Makes, StaysVisited, Visits, lock_holder}
 use Rattle.mem_machine.specs.{local_of}
 
 -- who holds the lock may act for the zone
@@ -39,14 +38,14 @@ holder_is_cpu t past is =
 pub held_here : (t : KnownTable) (m now : KnownMachine) → m ≡ now → IsHeld t now.run.past → IsHeld t m.run.past
 held_here t m now same is = subst (λ (x : KnownMachine). IsHeld t x.run.past) (sym same) is
 
-pub visits_here : (t : KnownTable) (m now : KnownMachine) → m ≡ now → (c : KnownCpu) → Visits t now c → Visits t m c
+pub visits_here : (t : KnownTable) (m now : KnownMachine) → m ≡ now → (c : KnownCpuLists) → Visits t now c → Visits t m c
 visits_here t m now same c visit = subst (λ (x : KnownMachine). Visits t x c) (sym same) visit
 
-pub holds_here : (t : KnownTable) (m now : KnownMachine) → m ≡ now → (c : KnownCpu) → Holds t now c → Holds t m c
+pub holds_here : (t : KnownTable) (m now : KnownMachine) → m ≡ now → (c : KnownCpuLists) → Holds t now c → Holds t m c
 holds_here t m now same c holds = subst (λ (x : KnownMachine). Holds t x c) (sym same) holds
 
 -- what was noted leads where the steps lead
-pub makes : (t : KnownTable) (m n : KnownMachine) (steps : Run) → IsHeld t m.run.past → Notes t m.run steps n.run
+pub makes : (t : KnownTable) (m n : KnownMachine) (steps : Run) → IsHeld t m.run.past → Records t m.run steps n.run
     → IsLocalRun (lock_holder m) (local_of t m) steps (fold after_made (local_of t m) steps)
     → FollowsSteps (local_of t m) m.ledger steps n.ledger → n.counts ≡ counts_along (local_of t m) steps m.counts → Makes t m steps n
 makes t m n steps is noted leads follows counts = record {
@@ -58,7 +57,7 @@ makes t m n steps is noted leads follows counts = record {
 }
 
 -- the same of the CPU of this number, which holds the lock
-pub makes_as : (t : KnownTable) (m n : KnownMachine) (p : ℕ) (steps : Run) → IsHeld t m.run.past → lock_holder m ≡ p → Notes t m.run steps n.run
+pub makes_as : (t : KnownTable) (m n : KnownMachine) (p : ℕ) (steps : Run) → IsHeld t m.run.past → lock_holder m ≡ p → Records t m.run steps n.run
     → IsLocalRun p (local_of t m) steps (fold after_made (local_of t m) steps)
     → FollowsSteps (local_of t m) m.ledger steps n.ledger → n.counts ≡ counts_along (local_of t m) steps m.counts → Makes t m steps n
 makes_as t m n p steps is who noted leads follows counts =
@@ -68,7 +67,7 @@ makes_as t m n p steps is who noted leads follows counts =
 pub one_leads : (p : ℕ) (s : State) (e : Step × Answer) → IsLocalStep s p e.0.seat e.0.action e.1 → IsLocalRun p s (e ∷ []) (fold after_made s (e ∷ []))
 one_leads p s e step = (step, refl)
 
-pub own_same : (s u : State) (c : KnownCpu) → HasSameLists c.number s u → HasOwn s c → HasOwn u c
+pub own_same : (s u : State) (c : KnownCpuLists) → HasSameLists c.number s u → HasOwn s c → HasOwn u c
 own_same s u c same own = record {
   list = same.list ∙ own.list;
   fresh = same.fresh ∙ own.fresh;
@@ -77,7 +76,7 @@ own_same s u c same own = record {
 }
 
 -- steps that leave the lock and all lists leave each visit open
-pub stays_visited : (t : KnownTable) (m n : KnownMachine) (steps : Run) → Notes t m.run steps n.run → (fold after_made (local_of t m) steps).hold ≡ (local_of t m).hold
+pub stays_visited : (t : KnownTable) (m n : KnownMachine) (steps : Run) → Records t m.run steps n.run → (fold after_made (local_of t m) steps).hold ≡ (local_of t m).hold
     → ((p : ℕ) → HasSameLists p (local_of t m) (fold after_made (local_of t m) steps)) → StaysVisited t m n
 stays_visited t m n steps noted hold same c visit =
     let later = sym (noted.grew.sees visit.held) in
@@ -89,7 +88,7 @@ stays_visited t m n steps noted hold same c visit =
     }
 
 -- a machine with the same run is visited as before
-pub visit_same : (t : KnownTable) (m n : KnownMachine) (c : KnownCpu) → n.run ≡ m.run → Visits t m c → Visits t n c
+pub visit_same : (t : KnownTable) (m n : KnownMachine) (c : KnownCpuLists) → n.run ≡ m.run → Visits t m c → Visits t n c
 visit_same t m n c same visit = record {
   held = subst (λ (r : KnownRun). IsHeld t r.past) (sym same) visit.held;
   who = ap (λ (r : KnownRun). (cpu_past r.past).number) same ∙ visit.who;

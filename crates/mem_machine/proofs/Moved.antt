@@ -8,10 +8,10 @@ use Rattle.std.proofs.lemmas.Nat.{pow_pos}
 use Rattle.std.proofs.lemmas.Option.{none-some}
 use Rattle.std.proofs.lemmas.List.{get_or-set_same, get_or-set_other}
 use Rattle.zone_blocks.specs.Zone.{IsInUse}
-use Rattle.frame_word.specs.Seats.{KnownTable}
 use Rattle.group_charge.specs.Charges.{pages_of}
 use Rattle.group_tree.specs.Bounds.{most_groups}
 use Rattle.lru_lists.specs.declared.record.Home.{Home}
+use Rattle.stock_word.specs.Stock.{group_base}
 use Rattle.step_rules.specs.declared.phase.ChargedUnit.{ChargedUnit}
 use Rattle.step_rules.specs.declared.phase.Stage.{Stage}
 use Rattle.step_rules.specs.declared.phase.Stage.TheVariants.{BackAt, FreshAt, Live}
@@ -28,13 +28,13 @@ use Rattle.step_rules.proofs.Lists.{times_same}
 use Rattle.step_rules.proofs.Placing.{within_cases}
 use Rattle.step_rules.proofs.Sums.{sum_change}
 use Rattle.step_rules.proofs.SoundSteps.{cpu_range}
-use Rattle.boot_words.specs.{hide, hide_phase, IsHeld, cpu_past, local_by_pasts, zone_of_boot}
-use Rattle.cpu_part.specs.{KnownCpu, HasOwn}
+use Rattle.boot_words.specs.{hide, hide_phase, IsHeld, cpu_past, local_by_pasts, zone_of_boot, KnownTable}
+use Rattle.cpu_part.specs.{KnownCpuLists, HasOwn}
 use Rattle.mem_machine.specs.declared.frame_state.FrameState.{FrameState}
 use Rattle.mem_machine.specs.declared.frame_state.FrameState.TheVariants.{Free, Lent, Head, Tail}
 use Rattle.mem_machine.specs.{frame_state_at, free_of, is_free_state, one_if_is, phase_hidden, AreBooked, AreOwners, counts_along, FollowsSteps}
 use Rattle.mem_machine.specs.{FreesFrames, KnownMachine, VisitState, IsConsistent, IsShownBy, booked, frames_charged, home_of, left_by, pages_booked}
-use Rattle.mem_machine.specs.{stock_group, AreLocal, KnownRun, MayTake, Notes, after_made, Makes, Visits, lock_holder, local_of, visit_state}
+use Rattle.mem_machine.specs.{stock_group, AreLocal, KnownRun, MayTake, Records, after_made, Makes, Visits, lock_holder, local_of, visit_state}
 use Rattle.mem_machine.proofs.HandOvers.{IsVisited}
 use Rattle.mem_machine.proofs.Made.{holder_is_cpu, zone_acts, zone_seen}
 use Rattle.mem_machine.proofs.Noted.{run_ends}
@@ -187,7 +187,7 @@ module _ (t : KnownTable) (m n : KnownMachine) (s : State) (shown : IsShownBy t 
     references = refs;
     settled = shown.settled;
     absorbed = at_each s.parts p part (λ k x. told_pages x ≡ 0) (told ∙ shown.absorbed p) (λ k ne. shown.absorbed k);
-    bounded = at_each s.parts p part (λ k x. x.book < 65536) (let a = shown.bounded p in omega (arith, a, book)) (λ k ne. shown.bounded k);
+    bounded = at_each s.parts p part (λ k x. x.book < group_base) (let a = shown.bounded p in omega (arith, a, book)) (λ k ne. shown.bounded k);
     charged = charged;
   }
 
@@ -209,7 +209,7 @@ module _ (t : KnownTable) (m n : KnownMachine) (s : State) (shown : IsShownBy t 
   }
 
 -- the CPU's lists are those of its part
-pub own_moved : (s : State) (c : KnownCpu) → HasOwn s c → (part : Part) (ph : ℕ → Phase) (references : ℕ → ℕ → ℕ) (list fresh back : List ℕ)
+pub own_moved : (s : State) (c : KnownCpuLists) → HasOwn s c → (part : Part) (ph : ℕ → Phase) (references : ℕ → ℕ → ℕ) (list fresh back : List ℕ)
     → ((f : ℕ) → references c.number f ≡ s.references c.number f) → part.list ≡ list → part.fresh ≡ fresh → part.back ≡ back
     → HasOwn (record s { phases = ph; parts = with_at s.parts c.number part; references = references }) (record c { list = list; fresh = fresh; back = back })
 own_moved s c own part ph references list fresh back same on_list is_fresh is_back =
@@ -222,7 +222,7 @@ own_moved s c own part ph references list fresh back same on_list is_fresh is_ba
 
 -- ---- the visit
 
-module _ (t : KnownTable) (m : KnownMachine) (c : KnownCpu) (visit : Visits t m c) where
+module _ (t : KnownTable) (m : KnownMachine) (c : KnownCpuLists) (visit : Visits t m c) where
   -- what is known of the CPU in each step
   pub is_visited : (f : ℕ) → is_frame (local_of t m).zone f ≡ true → IsVisited (local_of t m) c.number f
   is_visited f framed = record {
@@ -277,7 +277,7 @@ module _ (t : KnownTable) (m : KnownMachine) (c : KnownCpu) (visit : Visits t m 
   booked_here = subst (λ (p : ℕ). IsBooked ((local_of t m).parts p)) visit.who
       (own_booked (zone_of_boot t) (cpu_past m.run.past).seen (lock_holder m) visit.held.holds.shows.legal)
 
-  module _ (n : KnownMachine) (d : KnownCpu) (steps : Run) (x : State) (noted : Notes t m.run steps n.run) (leads : IsLocalRun c.number (local_of t m) steps x) where
+  module _ (n : KnownMachine) (d : KnownCpuLists) (steps : Run) (x : State) (noted : Records t m.run steps n.run) (leads : IsLocalRun c.number (local_of t m) steps x) where
     sees_then : local_of t n ≡ x
     sees_then = noted.grew.sees visit.held ∙ run_ends c.number (local_of t m) steps x leads
 
@@ -304,13 +304,13 @@ module _ (t : KnownTable) (m : KnownMachine) (c : KnownCpu) (visit : Visits t m 
 -- ---- the run
 
 -- what is local after the first steps
-local_behind : (p : ℕ) (a : State) (first second : Run) → AreLocal p a (first ++ second) → AreLocal p (fold after_made a first) second
+pub local_behind : (p : ℕ) (a : State) (first second : Run) → AreLocal p a (first ++ second) → AreLocal p (fold after_made a first) second
 local_behind p a [] second all = all
 local_behind p a (e ∷ rest) second all = local_behind p (after_made a e) rest second all.1
 
 -- once the first steps were made, the next may be taken
 pub may_next : (t : KnownTable) (run later : KnownRun) (first rest : Run) (e : Step × Answer) (p : ℕ) → IsHeld t run.past → (cpu_past run.past).number ≡ p
-    → Notes t run first later → AreLocal p (local_by_pasts t run.past) (first ++ e ∷ rest) → MayTake t later.past e
+    → Records t run first later → AreLocal p (local_by_pasts t run.past) (first ++ e ∷ rest) → MayTake t later.past e
 may_next t run later first rest e p held who noted all =
     subst (λ (x : ℕ × State). IsLocalStep x.1 x.0 e.0.seat e.0.action e.1) (λ i. (sym (noted.grew.holder held ∙ who) i, sym (noted.grew.sees held) i))
     (local_behind p (local_by_pasts t run.past) first (e ∷ rest) all).0
@@ -318,7 +318,7 @@ may_next t run later first rest e p held who noted all =
 -- ---- the machine as it was seen before
 
 -- what a call leaves that makes these steps
-pub record AllMoved (t : KnownTable) (now : KnownMachine) (c : KnownCpu) (Does : VisitState → VisitState → Type 0) (steps : Run) (n : KnownMachine) (d : KnownCpu)
+pub record AllMoved (t : KnownTable) (now : KnownMachine) (c : KnownCpuLists) (Does : VisitState → VisitState → Type 0) (steps : Run) (n : KnownMachine) (d : KnownCpuLists)
     (free : List Bool) (sums : List ℕ) (owners : List (Option ℕ)) : Type 0 where
   pub consistent : IsConsistent t n
   pub free_is : free ≡ free_of n.frame_states

@@ -3,7 +3,6 @@
 use Rattle.std.proofs.Common.{◌≡◌, ℕ, ◌+◌, ◌<◌, ◌==◌, ◌&&◌, Bool, true, false, List, [], ◌∷◌, cond, length, refl, sym, ap, ◌∙◌, arith, zero, suc, eq-eqb}
 use Rattle.std.specs.Prelude.{is_some, nat_le}
 use Rattle.std.proofs.lemmas.List.Sums.{sum_by-append}
-use Rattle.frame_word.specs.Seats.{KnownTable}
 use Rattle.step_rules.specs.declared.phase.Phase.{Phase}
 use Rattle.step_rules.specs.declared.phase.Phase.TheVariants as phase
 use Rattle.step_rules.specs.declared.phase.Stage.TheVariants.{FreshAt}
@@ -14,8 +13,8 @@ use Rattle.step_rules.specs.After.{state_of}
 use Rattle.step_rules.proofs.CoverParts.{own_part}
 use Rattle.step_rules.proofs.CoverPhases.{own_seen}
 use Rattle.step_rules.proofs.Runs.{sound_run}
-use Rattle.boot_words.specs.{cpu_past, zone_of_boot}
-use Rattle.cpu_part.specs.Cpus.{KnownCpu}
+use Rattle.boot_words.specs.{cpu_past, zone_of_boot, KnownTable}
+use Rattle.cpu_part.specs.Cpus.{KnownCpuLists}
 use Rattle.mem_machine.specs.declared.frame_state.FrameState.{FrameState}
 use Rattle.mem_machine.specs.declared.frame_state.FrameState.TheVariants.{Free, Lent, Head, Tail}
 use Rattle.mem_machine.specs.{frame_state_at, is_free_state, frame_state_group, Holds, group_of_fresh, local_of, phase_of, visit_state, KnownMachine}
@@ -29,7 +28,7 @@ unlisted true g p = refl
 unlisted false g p = refl
 
 -- the CPU that holds the lock has no frame that is lent to it, if it has no listed and no fresh frame
-pub none_lent : (t : KnownTable) (m : KnownMachine) (c : KnownCpu) → IsConsistent t m → Holds t m c → c.list ≡ [] → c.fresh ≡ [] → NoneLentTo c.number m.frame_states
+pub none_lent : (t : KnownTable) (m : KnownMachine) (c : KnownCpuLists) → IsConsistent t m → Holds t m c → c.list ≡ [] → c.fresh ≡ [] → NoneLentTo c.number m.frame_states
 none_lent t m c ok holds no_list no_fresh f is =
     let p = (cpu_past m.run.past).number in
     let u = state_of (zone_of_boot t) (cpu_past m.run.past).seen in

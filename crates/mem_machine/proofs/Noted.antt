@@ -2,18 +2,17 @@
 use Rattle.std.proofs.Common.{◌≡◌, ℕ, ◌++◌, [], ◌∷◌, refl, sym, ◌∙◌, ap, subst}
 use Rattle.std.specs.List.{fold}
 use Rattle.std.proofs.lemmas.List.Sums.{fold-append}
-use Rattle.frame_word.specs.Seats.{KnownTable}
 use Rattle.step_rules.specs.declared.step.Step.{Step}
 use Rattle.step_rules.specs.declared.step.Action.{Action}
 use Rattle.step_rules.specs.declared.step.Answer.{Answer}
 use Rattle.step_rules.specs.State.{State}
 use Rattle.step_rules.specs.{Run, IsLocalStep, IsLocalRun}
-use Rattle.boot_words.specs.{KnownPasts, MakesStep, cpu_past, local_by_pasts, own_past, AreLegal, IsPlain}
+use Rattle.boot_words.specs.{KnownPasts, MakesStep, cpu_past, local_by_pasts, own_past, AreLegal, IsPlain, KnownTable}
 use Rattle.boot_words.proofs.Grown.{all_grew_both}
-use Rattle.cpu_part.specs.Made.{MakesAll}
+use Rattle.cpu_part.proofs.Made.{MakesAll}
 use Rattle.step_watch.specs.Watched.{Builds, Watches}
 use Rattle.step_watch.proofs.Watching.{watches_none, watches_both}
-use Rattle.mem_machine.specs.Noted.{AreLocal, PastsGrowBy, KnownRun, MayTake, MayTakeAll, Notes, after_made}
+use Rattle.mem_machine.specs.Noted.{AreLocal, PastsGrowBy, KnownRun, MayTake, MayTakeAll, Records, after_made}
 
 -- ---- how the pasts grow
 
@@ -47,10 +46,10 @@ all_grow t s (e ∷ rest) s' made = grows_both t s (e ∷ []) made.0 rest s' (ma
 
 -- ---- the pasts and the watch
 
-pub notes_none : (t : KnownTable) (run : KnownRun) → Notes t run [] run
+pub notes_none : (t : KnownTable) (run : KnownRun) → Records t run [] run
 notes_none t run = record { grew = grows_none t run.past; watched = watches_none run.watch }
 
-pub notes_both : (t : KnownTable) (a : KnownRun) (one : Run) (b : KnownRun) (two : Run) (c : KnownRun) → Notes t a one b → Notes t b two c → Notes t a (one ++ two) c
+pub notes_both : (t : KnownTable) (a : KnownRun) (one : Run) (b : KnownRun) (two : Run) (c : KnownRun) → Records t a one b → Records t b two c → Records t a (one ++ two) c
 notes_both t a one b two c first second = record {
   grew = grows_both t a.past one b.past two c.past first.grew second.grew;
   watched = watches_both a.watch one b.watch two c.watch first.watched second.watched;
@@ -58,7 +57,7 @@ notes_both t a one b two c first second = record {
 
 -- one step: the pasts have grown by it, and the watch took it
 pub notes_one : (t : KnownTable) (a : KnownRun) (e : Step × Answer) (b : KnownRun) → MakesStep t a.past e.0.seat e.0.action e.1 b.past → Watches a.watch (e ∷ []) b.watch
-    → Notes t a (e ∷ []) b
+    → Records t a (e ∷ []) b
 notes_one t a e b made took = record { grew = made_grows t a.past e.0.seat e.0.action e.1 b.past made; watched = took }
 
 -- ---- lists of local steps

@@ -3,29 +3,28 @@ use Rattle.std.proofs.Common.{◌≡◌, ℕ, ◌+◌, ◌-◌, ◌<◌, ◌≤�
 use Rattle.std.specs.List.{fold}
 use Rattle.std.specs.Prelude.{slice_set}
 use Rattle.std.proofs.lemmas.Bool.{and_from, le-leb}
-use Rattle.frame_word.specs.Seats.{KnownTable}
 use Rattle.group_tree.specs.declared.group.Group.{Group}
 use Rattle.group_tree.specs.Groups.{has_group}
 use Rattle.group_tree.specs.Room as room
 use Rattle.group_charge.specs.Charges.{Ledger, AreCharges, current_of, pages_of, with_charge}
 use Rattle.group_charge.proofs.CallerLemmas.{charge_pages}
+use Rattle.stock_word.specs.Stock.{group_base}
 use Rattle.step_rules.specs.declared.step.Action.TheVariants.{Fill, Grant}
 use Rattle.step_rules.specs.declared.step.Answer.TheVariants.{Done, Granted, Over}
-use Rattle.step_rules.specs.{told_pages, Part, with_at, is_legal, is_of_group, takes_fill, Run, filled, state_of, with_part, IsLocalRun}
+use Rattle.step_rules.specs.{told_pages, Part, with_at, is_legal, is_of_group, takes_fill, Run, filled, state_of, with_part, IsLocalRun, zone_makes}
 use Rattle.step_rules.specs.{other_part_seen}
 use Rattle.step_rules.specs.State.{State}
 use Rattle.step_rules.proofs.Basics.{at_each}
 use Rattle.step_rules.proofs.CoverParts.{own_part}
 use Rattle.step_rules.proofs.SoundSteps.{cpu_range}
-use Rattle.boot_words.specs.{hide, IsHeld, KnownPasts, MakesStep, cpu_past, zone_of_boot, HasSameLists}
+use Rattle.boot_words.specs.{hide, IsHeld, KnownPasts, MakesStep, cpu_past, zone_of_boot, HasSameLists, KnownTable}
 use Rattle.boot_words.proofs.Returning.{none_booked}
-use Rattle.cpu_part.specs.Cpus.{KnownCpu}
+use Rattle.cpu_part.specs.Cpus.{KnownCpuLists}
 use Rattle.step_watch.specs.Watched.{KnownWatch, Watches}
 use Rattle.mem_machine.specs.declared.machine.Machine.TheInside.{Inside}
 use Rattle.mem_machine.specs.{AreBooked, AreOwners, FollowsSteps, IsSoundMachine, machine_of, Makes, StaysVisited, Visits, lock_holder, local_of}
 use Rattle.mem_machine.specs.{KnownMachine, IsConsistent, IsShownBy, frames_charged, is_killed, left_by, pages_booked, KnownRun, MayTake, MayTakeAll}
-use Rattle.mem_machine.specs.{Notes, after_made, HasRoomFor, MayCharge, fill_steps, over_steps, Fills, HasDrained, IsDrained, RefusesGrant}
-use Rattle.mem_machine.specs.Steps.{zone_makes}
+use Rattle.mem_machine.specs.{Records, after_made, HasRoomFor, MayCharge, fill_steps, over_steps, Fills, HasDrained, IsDrained, RefusesGrant}
 use Rattle.mem_machine.proofs.AtTable.{made_at}
 use Rattle.mem_machine.proofs.Booking.{books_more, sums_more}
 use Rattle.mem_machine.proofs.Followed.{follows_same, same_events}
@@ -57,7 +56,7 @@ module _ (t : KnownTable) (m : KnownMachine) (u : State) (ok : IsShownBy t m u) 
   more : (filled (u.parts p) g k).book ≡ k
   more = omega (arith, empty)
 
-  fill_shown : (facts : AreCharges m.ledger) → has_group m.ledger.groups g ≡ true → k < 65536 → (run : KnownRun)
+  fill_shown : (facts : AreCharges m.ledger) → has_group m.ledger.groups g ≡ true → k < group_base → (run : KnownRun)
       → IsShownBy t (record m { ledger = with_charge m.ledger g k; run = run }) (fill_state u p g k)
   fill_shown facts there small run = record {
     groups = ok.groups;
@@ -66,7 +65,7 @@ module _ (t : KnownTable) (m : KnownMachine) (u : State) (ok : IsShownBy t m u) 
     references = ok.references;
     settled = ok.settled;
     absorbed = at_each u.parts p (filled (u.parts p) g k) (λ j x. told_pages x ≡ 0) (ok.absorbed p) (λ j ne. ok.absorbed j);
-    bounded = at_each u.parts p (filled (u.parts p) g k) (λ j x. x.book < 65536) (omega (arith, empty, small)) (λ j ne. ok.bounded j);
+    bounded = at_each u.parts p (filled (u.parts p) g k) (λ j x. x.book < group_base) (omega (arith, empty, small)) (λ j ne. ok.bounded j);
     charged = λ h.
         let all = ok.charged h in
         let rise = charge_pages m.ledger g k facts there h in
@@ -79,7 +78,7 @@ module _ (t : KnownTable) (m : KnownMachine) (u : State) (ok : IsShownBy t m u) 
 
 -- ---- the steps
 
-module _ (t : KnownTable) (m : KnownMachine) (c : KnownCpu) (ok : IsConsistent t m) (facts : AreCharges m.ledger) (visit : Visits t m c) (none : c.fresh ≡ [])
+module _ (t : KnownTable) (m : KnownMachine) (c : KnownCpuLists) (ok : IsConsistent t m) (facts : AreCharges m.ledger) (visit : Visits t m c) (none : c.fresh ≡ [])
     (drained : IsDrained t m c.number) where
   shown : IsShownBy t m (hide (local_of t m))
   shown = shown_seen t m ok visit.held
@@ -157,7 +156,7 @@ module _ (t : KnownTable) (m : KnownMachine) (c : KnownCpu) (ok : IsConsistent t
       fill_may = may_all t m.run.past c.number (local_of t m) (fill_steps c.number g k) visit.who refl
           (run_steps c.number (local_of t m) (fill_steps c.number g k) (fill_state (local_of t m) c.number g k) fill_leads)
 
-      module _ (run : KnownRun) (noted : Notes t m.run (fill_steps c.number g k) run) where
+      module _ (run : KnownRun) (noted : Records t m.run (fill_steps c.number g k) run) where
         ends : fold after_made (local_of t m) (fill_steps c.number g k) ≡ fill_state (local_of t m) c.number g k
         ends = run_ends c.number (local_of t m) (fill_steps c.number g k) (fill_state (local_of t m) c.number g k) fill_leads
 
@@ -167,7 +166,7 @@ module _ (t : KnownTable) (m : KnownMachine) (c : KnownCpu) (ok : IsConsistent t
             ∙ fill_hidden (local_of t m) c.number g k (visit.own.fresh ∙ none)
             ∙ ap (λ (s : State). fill_state s c.number g k) (sym seen)
 
-        pub filled_consistent : k < 65536 → (l : Ledger) → l ≡ with_charge m.ledger g k → IsConsistent t (record m { ledger = l; run = run })
+        pub filled_consistent : k < group_base → (l : Ledger) → l ≡ with_charge m.ledger g k → IsConsistent t (record m { ledger = l; run = run })
         filled_consistent small l charged = subst (λ (x : Ledger). IsConsistent t (record m { ledger = x; run = run })) (sym charged) (record {
           sizes = record { frame_states = ok.sizes.frame_states; links = ok.sizes.links; lists = ok.sizes.lists; killed = ok.sizes.killed };
           areas = ok.areas;
@@ -208,7 +207,7 @@ module _ (t : KnownTable) (m : KnownMachine) (ok : IsConsistent t m) (facts : Ar
   pub refused_may : MayTake t m.run.past (zone_makes (Grant g k) (Over over))
   refused_may = is_over t m ok facts is (lock_holder m) g there alive k over low
 
-  module _ (run : KnownRun) (noted : Notes t m.run (over_steps g k over) run) where
+  module _ (run : KnownRun) (noted : Records t m.run (over_steps g k over) run) where
     refused_left : left_by t run.past ≡ left_by t m.run.past
     refused_left = left_then t m (over_steps g k over) run is noted ∙ sym (left_seen t m.run.past is)
 
@@ -225,21 +224,21 @@ module _ (t : KnownTable) (m : KnownMachine) (ok : IsConsistent t m) (facts : Ar
 -- ---- in the words of the call
 
 -- what is known of the machine before it
-pub record KnowsFill (t : KnownTable) (m : KnownMachine) (c : KnownCpu) (g k : ℕ) : Type 0 where
+pub record KnowsFill (t : KnownTable) (m : KnownMachine) (c : KnownCpuLists) (g k : ℕ) : Type 0 where
   pub visit : Visits t m c
   pub drained : IsDrained t m c.number
   pub there : has_group m.ledger.groups g ≡ true
   pub alive : is_killed m.killed g ≡ false
 
-pub knows_fill : (t : KnownTable) (m now : KnownMachine) → m ≡ now → (c : KnownCpu) (g k : ℕ) → Visits t now c → MayCharge now g k → IsDrained t now c.number
+pub knows_fill : (t : KnownTable) (m now : KnownMachine) → m ≡ now → (c : KnownCpuLists) (g k : ℕ) → Visits t now c → MayCharge now g k → IsDrained t now c.number
     → KnowsFill t m c g k
 knows_fill t m now same c g k visit charges drained =
     subst (λ (x : KnownMachine). KnowsFill t x c g k) (sym same) (record { visit = visit; drained = drained; there = charges.there; alive = charges.alive })
 
 -- the steps as they were made
-pub fill_noted : (t u : KnownTable) → u ≡ t → (run : KnownRun) (p g k n h : ℕ) → n ≡ p → h ≡ g → (mid : KnownRun) → Notes t run (zone_makes (Grant g k) Granted ∷ []) mid
+pub fill_noted : (t u : KnownTable) → u ≡ t → (run : KnownRun) (p g k n h : ℕ) → n ≡ p → h ≡ g → (mid : KnownRun) → Records t run (zone_makes (Grant g k) Granted ∷ []) mid
     → (later : KnownPasts) (watch : KnownWatch) → MakesStep u mid.past 0 (Fill n h k) Done later → Watches mid.watch (zone_makes (Fill n g k) Done ∷ []) watch
-    → Notes t run (fill_steps p g k) (record { past = later; watch = watch })
+    → Records t run (fill_steps p g k) (record { past = later; watch = watch })
 fill_noted t u at run p g k n h number group mid granted later watch made saw =
     notes_both t run (zone_makes (Grant g k) Granted ∷ []) mid (zone_makes (Fill p g k) Done ∷ []) (record { past = later; watch = watch }) granted
     (notes_one t mid (zone_makes (Fill p g k) Done) (record { past = later; watch = watch })
@@ -247,7 +246,7 @@ fill_noted t u at run p g k n h number group mid granted later watch made saw =
     (subst (λ (x : ℕ). Watches mid.watch (zone_makes (Fill x g k) Done ∷ []) watch) number saw))
 
 -- the fields after it
-module _ {N : Type 0} (t : KnownTable) (fields : Inside N) (ok : IsSoundMachine t fields) (c : KnownCpu) (g k : ℕ) (facts : AreCharges fields.charges)
+module _ {N : Type 0} (t : KnownTable) (fields : Inside N) (ok : IsSoundMachine t fields) (c : KnownCpuLists) (g k : ℕ) (facts : AreCharges fields.charges)
     (knows : KnowsFill t (machine_of fields) c g k) (none : c.fresh ≡ []) where
   abbrev m : KnownMachine
   m = machine_of fields
@@ -259,8 +258,8 @@ module _ {N : Type 0} (t : KnownTable) (fields : Inside N) (ok : IsSoundMachine 
       let sum = ok.sums.each i low in
       omega (arith, booked, sum)
 
-  module _ (has : room.PathHasRoom fields.charges.groups (current_of fields.charges) g k) (run : KnownRun) (noted : Notes t (machine_of fields).run (fill_steps c.number g k) run) where
-    pub filled_sound : k < 65536 → (i : ℕ) → i ≡ g → i < 64 → (n : ℕ) → n ≡ c.number → (charges : Ledger) → charges ≡ with_charge fields.charges g k → (owners : List (Option ℕ))
+  module _ (has : room.PathHasRoom fields.charges.groups (current_of fields.charges) g k) (run : KnownRun) (noted : Records t (machine_of fields).run (fill_steps c.number g k) run) where
+    pub filled_sound : k < group_base → (i : ℕ) → i ≡ g → i < 64 → (n : ℕ) → n ≡ c.number → (charges : Ledger) → charges ≡ with_charge fields.charges g k → (owners : List (Option ℕ))
         → owners ≡ slice_set fields.owners (n - 1) (Some g)
         → IsSoundMachine {N = N} t (record fields {
           charges = charges;
@@ -279,13 +278,13 @@ module _ {N : Type 0} (t : KnownTable) (fields : Inside N) (ok : IsSoundMachine 
     }
 
 -- what a fill leaves, of the machine as it was seen before
-pub record AllFilled (t : KnownTable) (now : KnownMachine) (c : KnownCpu) (g k : ℕ) (after : KnownMachine) : Type 0 where
+pub record AllFilled (t : KnownTable) (now : KnownMachine) (c : KnownCpuLists) (g k : ℕ) (after : KnownMachine) : Type 0 where
   pub fills : Fills t c.number g k now after
   pub steps : Makes t now (fill_steps c.number g k) after
   pub visit : Visits t after c
 
-pub filled_now : (t : KnownTable) (m now : KnownMachine) → m ≡ now → (c : KnownCpu) (g k : ℕ) → IsConsistent t m → AreCharges m.ledger → KnowsFill t m c g k → c.fresh ≡ []
-    → room.PathHasRoom m.ledger.groups (current_of m.ledger) g k → (run : KnownRun) → Notes t m.run (fill_steps c.number g k) run → (l : Ledger) → l ≡ with_charge m.ledger g k
+pub filled_now : (t : KnownTable) (m now : KnownMachine) → m ≡ now → (c : KnownCpuLists) (g k : ℕ) → IsConsistent t m → AreCharges m.ledger → KnowsFill t m c g k → c.fresh ≡ []
+    → room.PathHasRoom m.ledger.groups (current_of m.ledger) g k → (run : KnownRun) → Records t m.run (fill_steps c.number g k) run → (l : Ledger) → l ≡ with_charge m.ledger g k
     → AllFilled t now c g k (record m { ledger = l; run = run })
 filled_now t m now same c g k ok facts knows none has run noted l charged =
     subst (λ (x : KnownMachine × Ledger). AllFilled t x.0 c g k (record m { ledger = x.1; run = run })) (λ i. (same i, sym charged i)) (record {
@@ -295,9 +294,9 @@ filled_now t m now same c g k ok facts knows none has run noted l charged =
     })
 
 -- what a refusal leaves
-module _ {N : Type 0} (t : KnownTable) (fields : Inside N) (ok : IsSoundMachine t fields) (c : KnownCpu) (g k over : ℕ) (facts : AreCharges fields.charges)
+module _ {N : Type 0} (t : KnownTable) (fields : Inside N) (ok : IsSoundMachine t fields) (c : KnownCpuLists) (g k over : ℕ) (facts : AreCharges fields.charges)
     (knows : KnowsFill t (machine_of fields) c g k) (low : room.IsLowestOver fields.charges.groups (current_of fields.charges) g k over) (run : KnownRun)
-    (noted : Notes t (machine_of fields).run (over_steps g k over) run) (charges : Ledger) (same : charges ≡ fields.charges) where
+    (noted : Records t (machine_of fields).run (over_steps g k over) run) (charges : Ledger) (same : charges ≡ fields.charges) where
   abbrev before : KnownMachine
   before = machine_of fields
 

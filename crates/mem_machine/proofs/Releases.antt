@@ -7,7 +7,6 @@ use Rattle.std.proofs.lemmas.List.{get_or_default}
 use Rattle.std.proofs.lemmas.Option.{none-some}
 use Rattle.zone_blocks.specs.declared.block.Block.{Block}
 use Rattle.zone_blocks.specs.{AreMaximalBlocks, GivesFrames}
-use Rattle.frame_word.specs.Seats.{KnownTable}
 use Rattle.group_charge.specs.{Ledger, with_uncharge, KnownNotes}
 use Rattle.group_charge.proofs.CallerLemmas.{uncharge_events, uncharge_peaks}
 use Rattle.lru_lists.specs.declared.record.Link.{Link}
@@ -24,23 +23,22 @@ use Rattle.step_rules.specs.declared.step.Action.TheVariants.{Freeze, Put, Retur
 use Rattle.step_rules.specs.declared.step.Answer.{Answer}
 use Rattle.step_rules.specs.declared.step.Answer.TheVariants as answer
 use Rattle.step_rules.specs.{at_stage, is_live_phase, is_returnable, unit_of, Zone, is_frame, one_if, with_at, is_legal, Run, after, state_of}
-use Rattle.step_rules.specs.{IsLocalStep}
+use Rattle.step_rules.specs.{IsLocalStep, zone_makes}
 use Rattle.step_rules.specs.State.{State}
 use Rattle.step_rules.proofs.Basics.{at_same, at_other}
 use Rattle.step_rules.proofs.Living.{live_are_referenced}
 use Rattle.step_rules.proofs.Referring.{live_from_references}
 use Rattle.step_rules.proofs.Runs.{sound_run}
-use Rattle.boot_words.specs.{hide, hide_phase, KnownPasts, IsHeld, MakesStep, MayMake, cpu_past, local_by_pasts, zone_of_boot}
+use Rattle.boot_words.specs.{hide, hide_phase, KnownPasts, IsHeld, MakesStep, MayMake, cpu_past, local_by_pasts, zone_of_boot, KnownTable}
 use Rattle.step_watch.specs.Watched.{Watches}
 use Rattle.mem_machine.specs.declared.counts.Counts.{Counts}
 use Rattle.mem_machine.specs.declared.frame_state.FrameState.{FrameState}
 use Rattle.mem_machine.specs.declared.frame_state.FrameState.TheVariants.{Free, Head}
 use Rattle.mem_machine.specs.{frame_state_at, free_of, phase_hidden, FreesFrames, LeavesList, Releases, release_steps, with_last_put}
 use Rattle.mem_machine.specs.{one_more_last_put, Makes, StaysVisited, lock_holder, local_of, KnownMachine, BalancesCounts, FitsFrameState}
-use Rattle.mem_machine.specs.{IsConsistent, IsShownBy, group_lists, home_of, left_by, lists_of, pages_booked, KnownRun, MayTake, Notes}
+use Rattle.mem_machine.specs.{IsConsistent, IsShownBy, group_lists, home_of, left_by, lists_of, pages_booked, KnownRun, MayTake, Records}
 use Rattle.mem_machine.specs.declared.releasing.Released.{Released}
 use Rattle.mem_machine.specs.declared.releasing.Released.TheVariants.{Left, Returned}
-use Rattle.mem_machine.specs.Steps.{zone_makes}
 use Rattle.mem_machine.proofs.Balances.{balanced_last_put}
 use Rattle.mem_machine.proofs.Behind.{behind}
 use Rattle.mem_machine.proofs.Counted.{returned_ended}
@@ -135,7 +133,7 @@ module _ (t : KnownTable) (m : KnownMachine) (ok : IsConsistent t m) (held : IsH
     -- ---- references of CPUs are left
 
     module _ (left : ℕ) (stand : AllLinked links lists) (linked : length links ≡ t.frames) (listed : length lists ≡ 64) (run : KnownRun)
-        (noted : Notes t m.run (zone_makes (Put f) (answer.Left left) ∷ []) run) where
+        (noted : Records t m.run (zone_makes (Put f) (answer.Left left) ∷ []) run) where
       abbrev then : KnownMachine
       then = record m { links = links; lists = lists; run = run }
 
@@ -225,16 +223,16 @@ read_head t m ok f i inside is x unit read head =
 
 -- a step of the zone's seat on frame f, which the watch names i
 pub notes_of_zone : (t : KnownTable) (a b : KnownRun) (f i : ℕ) → i ≡ f → (action : ℕ → Action) (answered : Answer) → MakesStep t a.past 0 (action f) answered b.past
-    → Watches a.watch (zone_makes (action i) answered ∷ []) b.watch → Notes t a (zone_makes (action f) answered ∷ []) b
+    → Watches a.watch (zone_makes (action i) answered ∷ []) b.watch → Records t a (zone_makes (action f) answered ∷ []) b
 notes_of_zone t a b f i is action answered made watched =
     notes_one t a (zone_makes (action f) answered) b made (subst (λ (x : ℕ). Watches a.watch (zone_makes (action x) answered ∷ []) b.watch) is watched)
 
 -- and then the unit's return
-pub notes_back : (t : KnownTable) (a b : KnownRun) (f i : ℕ) → i ≡ f → (action : ℕ → Action) (answered : Answer) → Notes t a (zone_makes (action f) answered ∷ []) b
-    → (d : KnownRun) → Notes t b (zone_makes (Return i) answer.Done ∷ []) d → Notes t a (zone_makes (action f) answered ∷ zone_makes (Return f) answer.Done ∷ []) d
+pub notes_back : (t : KnownTable) (a b : KnownRun) (f i : ℕ) → i ≡ f → (action : ℕ → Action) (answered : Answer) → Records t a (zone_makes (action f) answered ∷ []) b
+    → (d : KnownRun) → Records t b (zone_makes (Return i) answer.Done ∷ []) d → Records t a (zone_makes (action f) answered ∷ zone_makes (Return f) answer.Done ∷ []) d
 notes_back t a b f i is action answered first d second =
     notes_both t a (zone_makes (action f) answered ∷ []) b (zone_makes (Return f) answer.Done ∷ []) d first
-    (subst (λ (x : ℕ). Notes t b (zone_makes (Return x) answer.Done ∷ []) d) is second)
+    (subst (λ (x : ℕ). Records t b (zone_makes (Return x) answer.Done ∷ []) d) is second)
 
 -- the return may be made after that step
 pub return_may : (t : KnownTable) (past later : KnownPasts) (f i : ℕ) → i ≡ f → (action : Action) (answered : Answer) → MakesStep t past 0 action answered later
@@ -282,7 +280,7 @@ module _ (t : KnownTable) (m : KnownMachine) (ok : IsConsistent t m) (held : IsH
     (links : List Link) (lists : List Lru) (leaves : LeavesList f (lists_of m) (group_lists links lists)) (stand : AllLinked links lists)
     (linked : length links ≡ t.frames) (listed : length lists ≡ 64) (run : KnownRun) where
   -- references of CPUs are left
-  left_here : (left : ℕ) → 1 ≤ left → Notes t m.run (release_steps f (Left left)) run → (free : List Bool) → free ≡ free_of m.frame_states
+  left_here : (left : ℕ) → 1 ≤ left → Records t m.run (release_steps f (Left left)) run → (free : List Bool) → free ≡ free_of m.frame_states
       → AllReleased t m (record m { links = links; lists = lists; run = run }) f (Left left) free
   left_here left some noted free was =
       let n : KnownMachine = record m { links = links; lists = lists; run = run } in
@@ -299,7 +297,7 @@ module _ (t : KnownTable) (m : KnownMachine) (ok : IsConsistent t m) (held : IsH
   -- the unit is freed
   returned_here : (unit : ChargedUnit) (heads : frame_state_at m.frame_states f ≡ Head unit) (before free : List Bool) → before ≡ free_of m.frame_states
       → GivesFrames before (record { at = f; order = unit.order }) free → (frame_states : List FrameState) → FreesFrames f (2 ^ unit.order) m.frame_states frame_states
-      → (blocks : List Block) → AreMaximalBlocks free blocks → Notes t m.run (release_steps f Returned) run
+      → (blocks : List Block) → AreMaximalBlocks free blocks → Records t m.run (release_steps f Returned) run
       → AllReleased t m (record m {
         blocks = blocks;
         frame_states = frame_states;
@@ -341,7 +339,7 @@ module _ (t : KnownTable) (m : KnownMachine) (ok : IsConsistent t m) (held : IsH
 
 pub left_all : (t : KnownTable) (m now : KnownMachine) → m ≡ now → IsConsistent t m → (f i : ℕ) → f < t.frames → i ≡ f → home_of now.links f ≢ None → IsHeld t now.run.past
     → (links : List Link) (lists : List Lru) → LeavesList i (lists_of m) (group_lists links lists) → AllLinked links lists → length links ≡ length m.links → length lists ≡ 64
-    → (left : ℕ) → 1 ≤ left → (run : KnownRun) → Notes t m.run (release_steps f (Left left)) run → (free : List Bool) → free ≡ free_of m.frame_states
+    → (left : ℕ) → 1 ≤ left → (run : KnownRun) → Records t m.run (release_steps f (Left left)) run → (free : List Bool) → free ≡ free_of m.frame_states
     → AllReleased t now (record m { links = links; lists = lists; run = run }) f (Left left) free
 left_all t m now same ok f i inside is kept held links lists leaves stand linked listed left some run noted free was =
     subst (λ (x : KnownMachine). AllReleased t x (record m { links = links; lists = lists; run = run }) f (Left left) free) same
@@ -354,7 +352,7 @@ pub returned_all : (t : KnownTable) (m now : KnownMachine) → m ≡ now → IsC
     → (before free : List Bool) (blocks : List Block) (frame_states : List FrameState) (ledger : Ledger) (counts : Counts)
     → before ≡ free_of m.frame_states → FreesFrames i (2 ^ unit.order) m.frame_states frame_states → GivesFrames before (record { at = i; order = unit.order }) free
     → AreMaximalBlocks free blocks → ledger ≡ with_uncharge m.ledger unit.group (2 ^ unit.order) → counts ≡ with_last_put m.counts
-    → (run : KnownRun) → Notes t m.run (release_steps f Returned) run
+    → (run : KnownRun) → Records t m.run (release_steps f Returned) run
     → AllReleased t now (record m {
       blocks = blocks;
       frame_states = frame_states;

@@ -1,8 +1,7 @@
 -- What the lock's holder sees is what the machine's fields and its own lists show. Serves callers that read phases, parts
 -- or references of `local_of`.
-use Rattle.std.proofs.Common.{◌≡◌, ◌≢◌, ℕ, ◌+◌, ◌==◌, ◌&&◌, List, Option, Some, None, cond, refl, sym, ap, ◌∙◌, subst, inl, inr, arith, length}
-use Rattle.std.specs.Prelude.{is_some, nat_le}
-use Rattle.frame_word.specs.Seats.{KnownTable}
+use Rattle.std.proofs.Common.{◌≡◌, ◌≢◌, ℕ, ◌+◌, ◌==◌, ◌&&◌, List, cond, refl, sym, ap, ◌∙◌, subst, inl, inr, arith, length}
+use Rattle.std.specs.Prelude.{is_some, nat_le, unwrap_or}
 use Rattle.step_rules.specs.declared.phase.Phase.{Phase}
 use Rattle.step_rules.specs.declared.phase.Phase.TheVariants as phase
 use Rattle.step_rules.specs.declared.phase.Stage.TheVariants.{FreshAt, BackAt, Live}
@@ -11,20 +10,16 @@ use Rattle.step_rules.specs.{IsBooked, Part, one_if, times, Run, state_of, other
 use Rattle.step_rules.specs.State.{State}
 use Rattle.step_rules.proofs.CoverParts.{own_part, other_part, other_reference}
 use Rattle.step_rules.proofs.Runs.{sound_run}
-use Rattle.boot_words.specs.{group_or_0, hide, show_phase, cpu_past, zone_of_boot}
+use Rattle.boot_words.specs.{hide, show_phase, cpu_past, zone_of_boot, KnownTable}
 use Rattle.boot_words.proofs.Showing.{holder_sees_both}
-use Rattle.cpu_part.specs.Cpus.{KnownCpu}
+use Rattle.cpu_part.specs.Cpus.{KnownCpuLists}
 use Rattle.mem_machine.specs.declared.frame_state.FrameState.{FrameState}
 use Rattle.mem_machine.specs.declared.frame_state.FrameState.TheVariants.{Free, Lent, Head, Tail}
 use Rattle.mem_machine.specs.{frame_state_at, phase_hidden, KnownMachine, IsConsistent, home_of, left_by, part_at, Holds, group_of_fresh, local_of}
-use Rattle.mem_machine.specs.{number_or_0, phase_of, visit_state}
+use Rattle.mem_machine.specs.{phase_of, visit_state}
 use Rattle.mem_machine.proofs.Sight.{left_seen, shown_seen}
 
-same_number : (o : Option ℕ) → group_or_0 o ≡ number_or_0 o
-same_number None = refl
-same_number (Some g) = refl
-
-phase_as : (c : KnownCpu) (part : Part) (g f : ℕ) (x : FrameState) → group_or_0 part.stock.group ≡ g → part.fresh ≡ c.fresh → part.back ≡ c.back
+phase_as : (c : KnownCpuLists) (part : Part) (g f : ℕ) (x : FrameState) → unwrap_or part.stock.group 0 ≡ g → part.fresh ≡ c.fresh → part.back ≡ c.back
     → show_phase c.number part f (phase_hidden x) ≡ phase_of c g f x
 phase_as c part g f Free group fresh back = refl
 phase_as c part g f (Lent q) group fresh back =
@@ -32,7 +27,7 @@ phase_as c part g f (Lent q) group fresh back =
 phase_as c part g f (Head unit) group fresh back = ap (λ (l : List ℕ). cond (nat_le 1 (times f l)) (phase.Head unit (BackAt c.number)) (phase.Head unit Live)) back
 phase_as c part g f (Tail h) group fresh back = refl
 
-module _ (t : KnownTable) (m : KnownMachine) (c : KnownCpu) (ok : IsConsistent t m) (holds : Holds t m c) where
+module _ (t : KnownTable) (m : KnownMachine) (c : KnownCpuLists) (ok : IsConsistent t m) (holds : Holds t m c) where
   -- what was seen, whole
   abbrev whole : State
   whole = state_of (zone_of_boot t) (cpu_past m.run.past).seen
@@ -53,8 +48,8 @@ module _ (t : KnownTable) (m : KnownMachine) (c : KnownCpu) (ok : IsConsistent t
       let both = holder_sees_both zone run p holds.held.holds.shows.legal in
       let x = frame_state_at m.frame_states f in
       let hidden : (hide u).phases f ≡ phase_hidden x = ap (λ (v : State). v.phases f) (sym left_whole) ∙ ok.shown.phases f in
-      let group : group_or_0 (u.parts c.number).stock.group ≡ group_of_fresh t (visit_state m c) =
-      same_number (u.parts c.number).stock.group ∙ ap (λ (v : State). number_or_0 (v.parts c.number).stock.group) (sym left_whole) in
+      let group : unwrap_or (u.parts c.number).stock.group 0 ≡ group_of_fresh t (visit_state m c) =
+      ap (λ (v : State). unwrap_or (v.parts c.number).stock.group 0) (sym left_whole) in
       ap (λ (v : State). v.phases f) both
       ∙ ap (λ (n : ℕ). show_phase n (u.parts n) f ((hide u).phases f)) holds.who
       ∙ ap (show_phase c.number (u.parts c.number) f) hidden

@@ -2,14 +2,13 @@
 -- the lock.
 use Rattle.std.proofs.Common.{◌≡◌, ℕ, ◌+◌, ◌==◌, ◌||◌, Bool, true, false, length, cond, refl, ap, sym, ◌∙◌, subst, arith}
 use Rattle.std.specs.List.{fold}
-use Rattle.frame_word.specs.Seats.{KnownTable}
 use Rattle.step_rules.specs.{Part, Run, state_of, with_part, other_part_seen, references_seen_by, seen_by}
 use Rattle.step_rules.specs.State.{State}
 use Rattle.step_rules.proofs.Basics.{cond-ap}
 use Rattle.step_rules.proofs.CoverParts.{part_seen}
 use Rattle.step_rules.proofs.CoverPhases.{seen_through}
-use Rattle.boot_words.specs.{hide, hide_phase, zone_references, KnownPasts, IsHeld, cpu_past, local_by_pasts, zone_of_boot}
-use Rattle.mem_machine.specs.{local_of, KnownMachine, IsConsistent, IsShownBy, left_by, KnownRun, Notes, after_made}
+use Rattle.boot_words.specs.{hide, hide_phase, zone_references, KnownPasts, IsHeld, cpu_past, local_by_pasts, zone_of_boot, KnownTable}
+use Rattle.mem_machine.specs.{local_of, KnownMachine, IsConsistent, IsShownBy, left_by, KnownRun, Records, after_made}
 
 twice_seen : (part : Part) → other_part_seen (other_part_seen part) ≡ other_part_seen part
 twice_seen part =
@@ -36,7 +35,7 @@ left_seen t past is =
     ∙ sym (hide_seen (cpu_past past).number (state_of (zone_of_boot t) (cpu_past past).seen))
 
 -- what the steps made of what was seen is left, hidden
-pub left_then : (t : KnownTable) (m : KnownMachine) (steps : Run) (run : KnownRun) → IsHeld t m.run.past → Notes t m.run steps run
+pub left_then : (t : KnownTable) (m : KnownMachine) (steps : Run) (run : KnownRun) → IsHeld t m.run.past → Records t m.run steps run
     → left_by t run.past ≡ hide (fold after_made (local_of t m) steps)
 left_then t m steps run is noted = left_seen t run.past (noted.grew.held is) ∙ ap hide (noted.grew.sees is)
 

@@ -3,16 +3,15 @@
 use Rattle.std.proofs.Common.{◌≡◌, ℕ, ◌+◌, ◌<◌, ◌^◌, false, true, Option, List, sym, ap, ◌∙◌, subst, inl, inr, arith}
 use Rattle.std.specs.List.{fold}
 use Rattle.std.proofs.lemmas.Bool.{cases_lt, false≢true}
-use Rattle.frame_word.specs.Seats.{KnownTable}
 use Rattle.group_tree.specs.Groups.{has_group}
 use Rattle.group_charge.specs.Charges.{AreCharges, current_of, pages_of}
 use Rattle.group_charge.proofs.CallerLemmas.{pages-le-current, usage-le-root}
 use Rattle.step_rules.specs.State.{Part, State}
 use Rattle.step_rules.specs.After.{Run}
-use Rattle.boot_words.specs.{hide, IsHeld}
+use Rattle.boot_words.specs.{hide, IsHeld, KnownTable}
 use Rattle.mem_machine.specs.declared.machine.Machine.TheInside.{Inside}
 use Rattle.mem_machine.specs.{AreBooked, AreOwners, IsSoundMachine, machine_of, local_of, KnownMachine, IsConsistent, IsShownBy, frames_charged}
-use Rattle.mem_machine.specs.{left_by, pages_booked, KnownRun, Notes, after_made}
+use Rattle.mem_machine.specs.{left_by, pages_booked, KnownRun, Records, after_made}
 use Rattle.mem_machine.proofs.Booking.{books_same, sums_same}
 use Rattle.mem_machine.proofs.Draining.{charged_there}
 use Rattle.mem_machine.proofs.Sight.{left_seen, left_then}
@@ -45,7 +44,7 @@ module _ (t : KnownTable) (m : KnownMachine) (is : IsHeld t m.run.past) where
   pub owners_seen : (owners : List (Option ℕ)) → AreOwners t.cpus (left_by t m.run.past).parts owners → AreOwners t.cpus (local_of t m).parts owners
   owners_seen owners are = owners_hidden t.cpus (local_of t m) owners (subst (λ (u : State). AreOwners t.cpus u.parts owners) (left_seen t m.run.past is) are)
 
-  module _ (steps : Run) (run : KnownRun) (noted : Notes t m.run steps run) where
+  module _ (steps : Run) (run : KnownRun) (noted : Records t m.run steps run) where
     -- those of what the steps made are those of what is left then
     pub sums_left : (sums : List ℕ) → AreBooked t.cpus (fold after_made (local_of t m) steps).parts sums → AreBooked t.cpus (left_by t run.past).parts sums
     sums_left sums are = subst (λ (u : State). AreBooked t.cpus u.parts sums) (sym (left_then t m steps run is noted)) (sums_shown t.cpus (fold after_made (local_of t m) steps) sums are)

@@ -3,19 +3,18 @@ use Rattle.std.proofs.Common.{◌≡◌, ℕ, ◌+◌, ◌==◌, ◌||◌, Bool,
 use Rattle.std.specs.List.{fold}
 use Rattle.std.specs.Prelude.{◌⊎◌}
 use Rattle.std.proofs.lemmas.Bool.{false≢true, or_parts}
-use Rattle.frame_word.specs.Seats.{KnownTable}
-use Rattle.stock_word.specs.declared.view.Stock.TheVariants.{HeldBy}
+use Rattle.stock_word.specs.declared.stock.Stock.TheVariants.{HeldBy}
 use Rattle.step_rules.specs.declared.step.Step.{Step}
 use Rattle.step_rules.specs.declared.step.Action.{Action}
 use Rattle.step_rules.specs.declared.step.Action.TheVariants.{Put, TakeIn, PassBack, Consume, Credit, Report, Absorb, DrainStock, Fill, Lock}
 use Rattle.step_rules.specs.declared.step.Answer.{Answer}
 use Rattle.step_rules.specs.declared.step.Answer.TheVariants.{Illegal, Done, Last, Pages}
-use Rattle.step_rules.specs.State.{Part, State, Stock, with_at}
+use Rattle.step_rules.specs.State.{Part, State, PartStock, with_at}
 use Rattle.step_rules.specs.After.{Run, after, filled, with_back}
 use Rattle.step_rules.proofs.Basics.{at_each, at_same}
 use Rattle.step_rules.proofs.Runs.{after_illegal}
-use Rattle.boot_words.specs.{IsHeld, stock_in, stock_said}
-use Rattle.cpu_part.specs.{KnownCpu, HasOwn}
+use Rattle.boot_words.specs.{IsHeld, stock_in, stock_said, KnownTable}
+use Rattle.cpu_part.specs.{KnownCpuLists, HasOwn}
 use Rattle.mem_machine.specs.{Makes, Visits, local_of, KnownMachine, part_at, stock_group, after_made, stock_now, AreDrainedIf, Fills, HasDrained}
 use Rattle.mem_machine.specs.{IsDrained, StockTest}
 use Rattle.mem_machine.proofs.Sight.{left_seen}
@@ -72,7 +71,7 @@ module _ (t : KnownTable) (m n : KnownMachine) (steps : Run) (is : IsHeld t m.ru
   pub groups_kept : (p : ℕ) → stock_group t n p ≡ stock_group t m p
   groups_kept p =
       ap (λ (s : State). (s.parts p).stock.group) (left_seen t n.run.past (makes.noted.grew.held is))
-      ∙ ap (λ (stock : Stock). stock.group) (stock_seen p)
+      ∙ ap (λ (stock : PartStock). stock.group) (stock_seen p)
       ∙ ap (λ (s : State). (s.parts p).stock.group) (sym (left_seen t m.run.past is))
 
   -- each drained one still is
@@ -80,7 +79,7 @@ module _ (t : KnownTable) (m n : KnownMachine) (steps : Run) (is : IsHeld t m.ru
   drained_kept p was =
       let seen : HasDrained ((local_of t m).parts p) = subst (λ (s : State). HasDrained (s.parts p)) (left_seen t m.run.past is) was in
       let here : HasDrained ((local_of t n).parts p) =
-      subst (λ (stock : Stock). (stock.group ≡ None) ⊎ (stock.is_drained ≡ true)) (sym (stock_seen p)) seen in
+      subst (λ (stock : PartStock). (stock.group ≡ None) ⊎ (stock.is_drained ≡ true)) (sym (stock_seen p)) seen in
       subst (λ (s : State). HasDrained (s.parts p)) (sym (left_seen t n.run.past (makes.noted.grew.held is))) here
 
   -- so those of a subtree, or of a group, stay drained
@@ -89,15 +88,15 @@ module _ (t : KnownTable) (m n : KnownMachine) (steps : Run) (is : IsHeld t m.ru
       drained_kept p (were p some few ((λ i. test (sym groups i) (sym (groups_kept p) i)) ∙ chosen))
 
   -- the own stock has the same pages
-  pub stock_kept : (c d : KnownCpu) → d.number ≡ c.number → stock_now t n d.number ≡ stock_now t m c.number
+  pub stock_kept : (c d : KnownCpuLists) → d.number ≡ c.number → stock_now t n d.number ≡ stock_now t m c.number
   stock_kept c d number =
       ap (λ (k : ℕ). stock_in ((local_of t n).parts k)) number
-      ∙ ap (λ (stock : Stock). stock_said stock.group stock.pages stock.is_drained) (stock_seen c.number)
+      ∙ ap (λ (stock : PartStock). stock_said stock.group stock.pages stock.is_drained) (stock_seen c.number)
 
 -- ---- a stock that is filled
 
 -- without a fresh frame, what the run left of the own stock is what the CPU sees
-pub stock_left : (t : KnownTable) (m : KnownMachine) (c : KnownCpu) → IsHeld t m.run.past → HasOwn (local_of t m) c → c.fresh ≡ [] → stock_now t m c.number ≡ stock_in (part_at t m c.number)
+pub stock_left : (t : KnownTable) (m : KnownMachine) (c : KnownCpuLists) → IsHeld t m.run.past → HasOwn (local_of t m) c → c.fresh ≡ [] → stock_now t m c.number ≡ stock_in (part_at t m c.number)
 stock_left t m c is own none =
     let part = (local_of t m).parts c.number in
     let long = ap length (own.fresh ∙ none) in
@@ -105,7 +104,7 @@ stock_left t m c is own none =
     ap (λ (k : ℕ). stock_said part.stock.group k part.stock.is_drained) pages ∙ ap (λ (s : State). stock_in (s.parts c.number)) (sym (left_seen t m.run.past is))
 
 -- a filled stock has the pages
-pub filled_stock : (t : KnownTable) (m n : KnownMachine) (c : KnownCpu) (g k : ℕ) → Visits t n c → c.fresh ≡ [] → Fills t c.number g k m n → stock_now t n c.number ≡ HeldBy g k
+pub filled_stock : (t : KnownTable) (m n : KnownMachine) (c : KnownCpuLists) (g k : ℕ) → Visits t n c → c.fresh ≡ [] → Fills t c.number g k m n → stock_now t n c.number ≡ HeldBy g k
 filled_stock t m n c g k visit none fills =
     stock_left t n c visit.held visit.own none
     ∙ ap (λ (s : State). stock_in (s.parts c.number)) fills.left

@@ -1,10 +1,9 @@
 -- The front of the visited CPU's list is returned to the free areas. Serves `unlist_one`.
-use Rattle.std.proofs.Common.{◌≡◌, ℕ, ◌<◌, ◌==◌, Bool, Option, List, [], ◌∷◌, length, refl, sym, ap, ◌∙◌, subst, arith, eq-eqb}
+use Rattle.std.proofs.Common.{◌≡◌, ℕ, ◌<◌, ◌==◌, Bool, Option, List, ◌∷◌, length, refl, sym, ap, ◌∙◌, subst, arith, eq-eqb}
 use Rattle.std.specs.Prelude.{slice_set}
 use Rattle.zone_blocks.specs.declared.block.Block.{Block}
 use Rattle.zone_blocks.specs.{AreMaximalBlocks, GivesFrames, IsInUse}
-use Rattle.frame_word.specs.Seats.{KnownTable}
-use Rattle.cpu_part.specs.{KnownCpu, PassesFront}
+use Rattle.cpu_part.specs.{KnownCpuLists, PassesFront}
 use Rattle.step_rules.specs.declared.phase.Way.TheVariants.{OnList}
 use Rattle.step_rules.specs.declared.phase.Phase.TheVariants as phase
 use Rattle.step_rules.specs.declared.step.Action.TheVariants.{PassBack, Collect}
@@ -12,23 +11,21 @@ use Rattle.step_rules.specs.declared.step.Answer.TheVariants.{Done}
 use Rattle.step_rules.specs.{told_pages, Part, Zone, front_of, one_if, times, with_at, IsLocalRun}
 use Rattle.step_rules.proofs.Lists.{times_same, without_front, without_none}
 use Rattle.step_rules.proofs.SoundSteps.{below_frames}
-use Rattle.boot_words.specs.{hide_phase, KnownPasts, MakesStep, MayMake}
-use Rattle.step_watch.specs.Watched.{KnownWatch, Watches}
+use Rattle.boot_words.specs.{hide_phase, KnownPasts, MakesStep, MayMake, KnownTable}
 use Rattle.mem_machine.specs.declared.frame_state.FrameState.TheVariants.{Free, Lent}
 use Rattle.mem_machine.specs.{AreBooked, AreOwners, frame_state_at, frame_state_group, free_of, is_free_state, UnlistsOne, Visits, local_of}
-use Rattle.mem_machine.specs.{KnownMachine, IsConsistent, left_by, KnownRun, MayTakeAll, Notes, unlist_steps}
-use Rattle.mem_machine.specs.Steps.{cpu_makes, zone_makes}
+use Rattle.mem_machine.specs.{KnownMachine, IsConsistent, left_by, KnownRun, MayTakeAll, Records, unlist_steps}
 use Rattle.mem_machine.proofs.Counted.{collects_none}
 use Rattle.mem_machine.proofs.HandOvers.{IsVisited, part_without, unlist_run, unlisted_state}
 use Rattle.mem_machine.proofs.Lends.{all_moved}
 use Rattle.mem_machine.proofs.Made.{visits_here, zone_seen}
 use Rattle.mem_machine.proofs.Moved.{AllMoved, front_here, is_visited, lent_in_use, lent_record, phases_set}
-use Rattle.mem_machine.proofs.Noted.{may_all, notes_both, notes_one, run_steps}
+use Rattle.mem_machine.proofs.Noted.{may_all, run_steps}
 use Rattle.mem_machine.proofs.OwnFrames.{HasFrame}
 use Rattle.mem_machine.proofs.Records.{free_given}
 use Rattle.mem_machine.proofs.Sight.{shown_seen}
 
-module _ (t : KnownTable) (m : KnownMachine) (c : KnownCpu) (ok : IsConsistent t m) (visit : Visits t m c) (f : ℕ) (rest : List ℕ) (front : c.list ≡ f ∷ rest) where
+module _ (t : KnownTable) (m : KnownMachine) (c : KnownCpuLists) (ok : IsConsistent t m) (visit : Visits t m c) (f : ℕ) (rest : List ℕ) (front : c.list ≡ f ∷ rest) where
   mine : HasFrame (local_of t m) c.number (phase.Lent c.number OnList) f
   mine = front_here t m c visit f rest front
 
@@ -59,7 +56,7 @@ module _ (t : KnownTable) (m : KnownMachine) (c : KnownCpu) (ok : IsConsistent t
   within : f < length m.frame_states
   within = let low = front_inside in let sized = ok.sizes.frame_states in omega (arith, low, sized)
 
-  pub unlisted_moved : (blocks : List Block) → AreMaximalBlocks (free_of (slice_set m.frame_states f Free)) blocks → (run : KnownRun) → Notes t m.run (unlist_steps c.number f) run
+  pub unlisted_moved : (blocks : List Block) → AreMaximalBlocks (free_of (slice_set m.frame_states f Free)) blocks → (run : KnownRun) → Records t m.run (unlist_steps c.number f) run
       → (sums : List ℕ) (owners : List (Option ℕ)) → AreBooked t.cpus (left_by t m.run.past).parts sums → AreOwners t.cpus (left_by t m.run.past).parts owners
       → AllMoved t m c (UnlistsOne f) (unlist_steps c.number f) (record m { blocks = blocks; frame_states = slice_set m.frame_states f Free; run = run })
       (record c { list = rest }) (free_of (slice_set m.frame_states f Free)) sums owners
@@ -79,7 +76,7 @@ module _ (t : KnownTable) (m : KnownMachine) (c : KnownCpu) (ok : IsConsistent t
 
 -- ---- of the machine as it was seen before
 
-module _ (t : KnownTable) (m now : KnownMachine) (same : m ≡ now) (c : KnownCpu) (visit : Visits t now c) (ok : IsConsistent t m) where
+module _ (t : KnownTable) (m now : KnownMachine) (same : m ≡ now) (c : KnownCpuLists) (visit : Visits t now c) (ok : IsConsistent t m) where
   here : Visits t m c
   here = visits_here t m now same c visit
 
@@ -91,7 +88,7 @@ module _ (t : KnownTable) (m now : KnownMachine) (same : m ≡ now) (c : KnownCp
   pub may_pass_front : (f : ℕ) (rest : List ℕ) → c.list ≡ f ∷ rest → MayMake t m.run.past c.number (PassBack f)
   may_pass_front f rest front = (unlist_may f rest front).0.legal
 
-  module _ (f : ℕ) (h : KnownCpu) (hands : PassesFront f c h) where
+  module _ (f : ℕ) (h : KnownCpuLists) (hands : PassesFront f c h) where
     pub may_collect_front : (p : ℕ) → p ≡ c.number → (later : KnownPasts) → MakesStep t m.run.past c.number (PassBack f) Done later → MayMake t later 0 (Collect f p)
     may_collect_front p number later made = subst (λ (x : ℕ). MayMake t later 0 (Collect f x)) (sym number) ((unlist_may f hands.0 hands.1).1 later made).0.legal
 
@@ -102,7 +99,7 @@ module _ (t : KnownTable) (m now : KnownMachine) (same : m ≡ now) (c : KnownCp
 
     pub unlisted_all : (before free : List Bool) (k : ℕ) (blocks : List Block) (i : ℕ) (sums : List ℕ) (owners : List (Option ℕ)) → before ≡ free_of m.frame_states
         → AreBooked t.cpus (left_by t m.run.past).parts sums → AreOwners t.cpus (left_by t m.run.past).parts owners → k ≡ 0
-        → GivesFrames before (record { at = i; order = k }) free → AreMaximalBlocks free blocks → i ≡ f → (run : KnownRun) → Notes t m.run (unlist_steps c.number f) run
+        → GivesFrames before (record { at = i; order = k }) free → AreMaximalBlocks free blocks → i ≡ f → (run : KnownRun) → Records t m.run (unlist_steps c.number f) run
         → AllMoved t now c (UnlistsOne f) (unlist_steps c.number f) (record m { blocks = blocks; frame_states = slice_set m.frame_states i Free; run = run }) h free sums owners
     unlisted_all before free k blocks i sums owners was are own zero_is gives areas index run noted =
         let gives_f : GivesFrames before (record { at = f; order = 0 }) free =
@@ -113,19 +110,5 @@ module _ (t : KnownTable) (m now : KnownMachine) (same : m ≡ now) (c : KnownCp
         let free_is : free ≡ free_of (slice_set m.frame_states f Free) = free_given before free m.frame_states f Free below was gives_f refl in
         let areas_f : AreMaximalBlocks (free_of (slice_set m.frame_states f Free)) blocks = subst (λ (l : List Bool). AreMaximalBlocks l blocks) free_is areas in
         let all = unlisted_moved t m c ok here f hands.0 hands.1 blocks areas_f run noted sums owners are own in
-        subst (λ (x : KnownMachine × KnownMachine × KnownCpu × List Bool). AllMoved t x.0 c (UnlistsOne f) (unlist_steps c.number f) x.1 x.2 x.3 sums owners)
+        subst (λ (x : KnownMachine × KnownMachine × KnownCpuLists × List Bool). AllMoved t x.0 c (UnlistsOne f) (unlist_steps c.number f) x.1 x.2 x.3 sums owners)
         (λ j. (same j, record m { blocks = blocks; frame_states = slice_set m.frame_states (sym index j) Free; run = run }, sym hands.2 j, sym free_is j)) all
-
-  -- they were made, and the watch took them
-  pub taken_notes : (f i p q : ℕ) → i ≡ f → p ≡ c.number → q ≡ c.number → (back later : KnownPasts) (mid watch : KnownWatch)
-      → MakesStep t m.run.past c.number (PassBack f) Done back → MakesStep t back 0 (Collect f p) Done later
-      → Watches m.run.watch (cpu_makes q (PassBack i) Done ∷ []) mid → Watches mid (zone_makes (Collect i q) Done ∷ []) watch
-      → Notes t m.run (unlist_steps c.number f) (record { past = later; watch = watch })
-  taken_notes f i p q index handed number back later mid watch passed collected saw saw_too =
-      notes_both t m.run (cpu_makes c.number (PassBack f) Done ∷ []) (record { past = back; watch = mid }) (zone_makes (Collect f c.number) Done ∷ [])
-      (record { past = later; watch = watch })
-      (notes_one t m.run (cpu_makes c.number (PassBack f) Done) (record { past = back; watch = mid }) passed
-      (subst (λ (x : ℕ × ℕ). Watches m.run.watch (cpu_makes x.1 (PassBack x.0) Done ∷ []) mid) (λ j. (index j, number j)) saw))
-      (notes_one t (record { past = back; watch = mid }) (zone_makes (Collect f c.number) Done) (record { past = later; watch = watch })
-      (subst (λ (x : ℕ). MakesStep t back 0 (Collect f x) Done later) handed collected)
-      (subst (λ (x : ℕ × ℕ). Watches mid (zone_makes (Collect x.0 x.1) Done ∷ []) watch) (λ j. (index j, number j)) saw_too))

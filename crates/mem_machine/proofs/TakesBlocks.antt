@@ -11,7 +11,6 @@ use Rattle.std.proofs.lemmas.Option.{none-some}
 use Rattle.zone_blocks.specs.declared.block.Block.{Block}
 use Rattle.zone_blocks.specs.{IsBlock, IsFree, IsFreeBlock, AreMaximalBlocks, HasNoneFrom, IsFrontOfSmallest, TakesFrames, block_at}
 use Rattle.zone_blocks.proofs.Halves.{lower_half}
-use Rattle.frame_word.specs.Seats.{KnownTable}
 use Rattle.group_tree.specs.{has_group, PathHasRoom, IsLowestOver}
 use Rattle.group_charge.specs.Charges.{Ledger, current_of, pages_of, with_charge, with_uncharge, PagesRise, AreCharges}
 use Rattle.group_charge.proofs.CallerLemmas.{uncharge_events, uncharge_pages, uncharge_peaks}
@@ -26,17 +25,16 @@ use Rattle.step_rules.specs.declared.step.Answer.TheVariants.{Done, Granted, NoF
 use Rattle.step_rules.specs.Phases.{at_stage, is_head, is_head_in_hand}
 use Rattle.step_rules.specs.Phases as phases
 use Rattle.step_rules.specs.State.{State}
-use Rattle.step_rules.specs.{Zone, free_in, is_frame, one_if, Run, after, is_within, placed_phase, is_legal, IsLocalRun}
+use Rattle.step_rules.specs.{Zone, free_in, is_frame, one_if, Run, after, is_within, placed_phase, is_legal, IsLocalRun, zone_makes}
 use Rattle.step_rules.proofs.Basics.{at_same, at_other}
 use Rattle.step_rules.proofs.Placing.{within_cases}
-use Rattle.boot_words.specs.{hide, hide_phase, IsHeld, MakesStep}
-use Rattle.step_watch.specs.Watched.{Watches}
+use Rattle.boot_words.specs.{hide, hide_phase, IsHeld, KnownTable}
 use Rattle.mem_machine.specs.declared.frame_state.FrameState.{FrameState}
 use Rattle.mem_machine.specs.declared.frame_state.FrameState.TheVariants.{Free, Head, Tail}
 use Rattle.mem_machine.specs.{frame_state_at, is_free_state, free_of, frame_state_group, head_group_of, phase_hidden, KnownMachine, FitsFrameState}
-use Rattle.mem_machine.specs.{IsConsistent, IsShownBy, home_of, is_killed, KnownRun, MayTakeAll, Notes, after_made, MayCharge, over_steps, PlacesUnit}
+use Rattle.mem_machine.specs.{IsConsistent, IsShownBy, home_of, is_killed, KnownRun, MayTakeAll, Records, after_made, MayCharge, over_steps, PlacesUnit}
 use Rattle.mem_machine.specs.{TakesBlock, TakesNoBlock, taken_steps, unplaced_steps, Makes, StaysVisited, lock_holder, local_of}
-use Rattle.mem_machine.specs.Steps.{zone_makes}
+use Rattle.mem_machine.specs.Steps.{publish_steps}
 use Rattle.mem_machine.proofs.BlockCharges.{charges_rise}
 use Rattle.mem_machine.proofs.Followed.{follows_same, same_events}
 use Rattle.mem_machine.proofs.Grants.{is_granted, is_not_placed, is_over, is_taken_back, may_place, none_pends, with_granted}
@@ -49,7 +47,6 @@ use Rattle.mem_machine.proofs.Noted.{may_all, notes_both, run_steps}
 use Rattle.mem_machine.proofs.PlacesUnits.{head_of_block, in_block, off_block, tail_of_block}
 use Rattle.mem_machine.proofs.Reaching.{zone_step}
 use Rattle.mem_machine.proofs.Records.{length_free, free_at, free_is, free_inside}
-use Rattle.mem_machine.proofs.Releases.{notes_of_zone}
 use Rattle.mem_machine.proofs.Sight.{left_then, shown_seen}
 use Rattle.mem_machine.proofs.Units.{units_placed}
 use Rattle.mem_machine.proofs.Usage.{usage_is}
@@ -255,7 +252,7 @@ module _ (t : KnownTable) (m : KnownMachine) (ok : IsConsistent t m) (facts : Ar
     ]
 
     module _ (blocks : List Block) (areas : AreMaximalBlocks (free_of frame_states) blocks) (rise : PagesRise m.ledger (with_charge m.ledger g (2 ^ b.order)) g (2 ^ b.order))
-        (run : KnownRun) (noted : Notes t m.run (taken_steps g b.order b.at) run) where
+        (run : KnownRun) (noted : Records t m.run (taken_steps g b.order b.at) run) where
       abbrev then : KnownMachine
       then = record m { blocks = blocks; frame_states = frame_states; ledger = with_charge m.ledger g (2 ^ b.order); links = links; lists = lists; run = run }
 
@@ -295,7 +292,7 @@ module _ (t : KnownTable) (m : KnownMachine) (ok : IsConsistent t m) (facts : Ar
           (record m { blocks = blocks; frame_states = frame_states; ledger = with_charge m.ledger g (2 ^ b.order); links = links; lists = lists; run = run })
       taken_makes = makes t m then (taken_steps g b.order b.at) held noted taken_leads
           (follows_grant (local_of t m) m.ledger shown.groups facts (usage_is t m ok facts held) g (2 ^ b.order) there
-          (zone_makes (PlaceBlock g b.order) (Placed b) ∷ zone_makes (Unfreeze b.at 1) Done ∷ zone_makes (Publish b.at) Done ∷ []) refl
+          (zone_makes (PlaceBlock g b.order) (Placed b) ∷ publish_steps b.at) refl
           (with_charge m.ledger g (2 ^ b.order)) (λ h. refl) (same_events (with_charge m.ledger g (2 ^ b.order)))) refl
 
       pub taken_visits : StaysVisited t m
@@ -314,10 +311,10 @@ pub taken_all : (t : KnownTable) (m now : KnownMachine) → m ≡ now → IsCons
     → (k pages : ℕ) → pages ≡ 2 ^ k → MayCharge now g (2 ^ k) → PathHasRoom m.ledger.groups (current_of m.ledger) g pages → (ledger : Ledger) → ledger ≡ with_charge m.ledger g pages
     → PagesRise m.ledger ledger g pages → (before free : List Bool) (b : Block) (blocks : List Block) → before ≡ free_of m.frame_states
     → IsFrontOfSmallest m.blocks k b → TakesFrames before b free → AreMaximalBlocks free blocks → (frame_states : List FrameState) → PlacesUnit g b m.frame_states frame_states
-    → (f u : ℕ) → f ≡ b.at → u ≡ f → (links : List Link) (lists : List Lru) → AllJoin m.links m.lists g u links lists
-    → (run : KnownRun) → Notes t m.run (taken_steps g k f) run
+    → (f : ℕ) → f ≡ b.at → (links : List Link) (lists : List Lru) → AllJoin m.links m.lists g b.at links lists
+    → (run : KnownRun) → Records t m.run (taken_steps g k f) run
     → AllTaken t now (record m { blocks = blocks; frame_states = frame_states; ledger = ledger; links = links; lists = lists; run = run }) g k f free
-taken_all t m now same ok facts held_now g fits k pages size may_now room ledger charged rise before free b blocks was front takes areas_free frame_states placed f u at named links lists
+taken_all t m now same ok facts held_now g fits k pages size may_now room ledger charged rise before free b blocks was front takes areas_free frame_states placed f at links lists
     joined run noted =
     let held = held_here t m now same held_now in
     let may = charge_here m now same g (2 ^ k) may_now in
@@ -328,8 +325,7 @@ taken_all t m now same ok facts held_now g fits k pages size may_now room ledger
     let rise_here : PagesRise m.ledger (with_charge m.ledger g (2 ^ b.order)) g (2 ^ b.order) =
     subst (λ (x : Ledger × ℕ). PagesRise m.ledger x.0 g x.1) (λ j. (ledger_is j, so_many j)) rise in
     let front_here : IsFrontOfSmallest m.blocks b.order b = subst (λ (x : ℕ). IsFrontOfSmallest m.blocks x b) order front in
-    let joined_here : AllJoin m.links m.lists g b.at links lists = subst (λ (x : ℕ). AllJoin m.links m.lists g x links lists) (named ∙ at) joined in
-    let noted_here : Notes t m.run (taken_steps g b.order b.at) run = subst (λ (x : ℕ × ℕ). Notes t m.run (taken_steps g x.0 x.1) run) (λ j. (order j, at j)) noted in
+    let noted_here : Records t m.run (taken_steps g b.order b.at) run = subst (λ (x : ℕ × ℕ). Records t m.run (taken_steps g x.0 x.1) run) (λ j. (order j, at j)) noted in
     let block = taken_inside m.frame_states m.blocks ok.areas before free was b.order b front_here takes in
     let were_free = taken_free m.frame_states m.blocks ok.areas before free was b.order b front_here takes in
     let frees : free ≡ free_of frame_states = free_then m.frame_states m.blocks ok.areas before free was b.order b front_here takes frame_states g placed in
@@ -342,21 +338,20 @@ taken_all t m now same ok facts held_now g fits k pages size may_now room ledger
       sym at j,
     ))
     (record {
-      consistent = taken_consistent t m ok facts held g b may.there may.alive room_here block were_free frame_states placed links lists joined_here fits blocks areas rise_here run noted_here;
+      consistent = taken_consistent t m ok facts held g b may.there may.alive room_here block were_free frame_states placed links lists joined fits blocks areas rise_here run noted_here;
       free_is = frees;
-      takes = record { room = room_here; front = front_here; areas = areas; unit = placed; listed = joined_here.joins; machine = refl };
-      visit = taken_visits t m ok facts held g b may.there may.alive room_here block were_free frame_states placed links lists joined_here fits blocks areas rise_here run noted_here;
-      steps = taken_makes t m ok facts held g b may.there may.alive room_here block were_free frame_states placed links lists joined_here fits blocks areas rise_here run noted_here;
+      takes = record { room = room_here; front = front_here; areas = areas; unit = placed; listed = joined.joins; machine = refl };
+      visit = taken_visits t m ok facts held g b may.there may.alive room_here block were_free frame_states placed links lists joined fits blocks areas rise_here run noted_here;
+      steps = taken_makes t m ok facts held g b may.there may.alive room_here block were_free frame_states placed links lists joined fits blocks areas rise_here run noted_here;
     })
 
 -- the head was on no list
 pub was_away : (t : KnownTable) (m : KnownMachine) → IsConsistent t m → (before free : List Bool) (b : Block) → before ≡ free_of m.frame_states → (k : ℕ)
-    → IsFrontOfSmallest m.blocks k b → TakesFrames before b free → (f u : ℕ) → f ≡ b.at → u ≡ f → home_of m.links u ≡ None
-was_away t m ok before free b was k front takes f u head named =
+    → IsFrontOfSmallest m.blocks k b → TakesFrames before b free → home_of m.links b.at ≡ None
+was_away t m ok before free b was k front takes =
     let sized = ok.sizes.frame_states in
     let low = head_inside m.frame_states m.blocks ok.areas before free was k b front takes in
-    ap (home_of m.links) (named ∙ head)
-    ∙ homeless (home_of m.links b.at) (frame_state_at m.frame_states b.at) (head_free m.frame_states m.blocks ok.areas before free was k b front takes)
+    homeless (home_of m.links b.at) (frame_state_at m.frame_states b.at) (head_free m.frame_states m.blocks ok.areas before free was k b front takes)
     (ok.frame_states b.at (omega (arith, sized, low)))
 
 -- the grant may be made, if there is room
@@ -367,36 +362,32 @@ granted_may t m now same ok facts held g k pages may_now room =
     may_steps t m (zone_makes (Grant g pages) Granted ∷ []) _
     (is_granted t m ok facts (held_here t m now same held) (lock_holder m) g may.there may.alive pages room, refl)
 
--- the steps, with the pages and the frame as the code names them
-abbrev pub taken_as : (g pages k at : ℕ) → Run
-taken_as g pages k at =
-    zone_makes (Grant g pages) Granted ∷ zone_makes (PlaceBlock g k) (Placed (record { at = at; order = k })) ∷ zone_makes (Unfreeze at 1) Done ∷ zone_makes (Publish at) Done ∷ []
+-- the steps, with the pages, the block and the frame as the code names them
+abbrev pub taken_as : (g pages k : ℕ) → Block → ℕ → Run
+taken_as g pages k b at = zone_makes (Grant g pages) Granted ∷ zone_makes (PlaceBlock g k) (Placed b) ∷ publish_steps at
 
 -- they may be made, once the block is known
 pub taken_may : (t : KnownTable) (m now : KnownMachine) → m ≡ now → IsConsistent t m → AreCharges m.ledger → IsHeld t now.run.past → (g k pages : ℕ) → pages ≡ 2 ^ k
     → MayCharge now g (2 ^ k) → PathHasRoom m.ledger.groups (current_of m.ledger) g pages → (before free : List Bool) (b : Block) → before ≡ free_of m.frame_states
-    → IsFrontOfSmallest m.blocks k b → TakesFrames before b free → (f u : ℕ) → f ≡ b.at → u ≡ f → MayTakeAll t m.run.past (taken_as g pages k u)
-taken_may t m now same ok facts held g k pages size may_now room before free b was front takes f u head named =
+    → IsFrontOfSmallest m.blocks k b → TakesFrames before b free → (f : ℕ) → f ≡ b.at → MayTakeAll t m.run.past (taken_as g pages k b f)
+taken_may t m now same ok facts held g k pages size may_now room before free b was front takes f head =
     let may = charge_here m now same g (2 ^ k) may_now in
     let order : k ≡ b.order = sym front.order_is in
     let so_many : pages ≡ 2 ^ b.order = size ∙ ap (λ (x : ℕ). 2 ^ x) order in
     let front_b : IsFrontOfSmallest m.blocks b.order b = subst (λ (x : ℕ). IsFrontOfSmallest m.blocks x b) order front in
-    subst (λ (x : ℕ × ℕ × ℕ). MayTakeAll t m.run.past (taken_as g x.0 x.1 x.2)) (λ j. (sym so_many j, sym order j, sym (named ∙ head) j))
+    subst (λ (x : ℕ × ℕ × ℕ). MayTakeAll t m.run.past (taken_as g x.0 x.1 b x.2)) (λ j. (sym so_many j, sym order j, sym head j))
     (may_steps t m (taken_steps g b.order b.at) _
     (taken_leads t m ok facts (held_here t m now same held) g b may.there may.alive (subst (PathHasRoom m.ledger.groups (current_of m.ledger) g) so_many room)
     (taken_inside m.frame_states m.blocks ok.areas before free was b.order b front_b takes) (taken_free m.frame_states m.blocks ok.areas before free was b.order b front_b takes)))
 
--- the table takes the third step of frame f, which the code names u elsewhere
-pub taken_notes : (t : KnownTable) (a b d e s : KnownRun) (g k pages f u : ℕ) → pages ≡ 2 ^ k → u ≡ f → Notes t a (zone_makes (Grant g pages) Granted ∷ []) b
-    → Notes t b (zone_makes (PlaceBlock g k) (Placed (record { at = u; order = k })) ∷ []) d → MakesStep t d.past 0 (Unfreeze f 1) Done e.past
-    → Watches d.watch (zone_makes (Unfreeze u 1) Done ∷ []) e.watch → Notes t e (zone_makes (Publish u) Done ∷ []) s → Notes t a (taken_steps g k f) s
-taken_notes t a b d e s g k pages f u size named grants places made watched publishes =
-    let third = notes_of_zone t d e f u named (λ x. Unfreeze x 1) Done made watched in
-    let last : Notes t e (zone_makes (Publish f) Done ∷ []) s = subst (λ (x : ℕ). Notes t e (zone_makes (Publish x) Done ∷ []) s) named publishes in
-    let second : Notes t b (zone_makes (PlaceBlock g k) (Placed (record { at = f; order = k })) ∷ []) d =
-    subst (λ (x : ℕ). Notes t b (zone_makes (PlaceBlock g k) (Placed (record { at = x; order = k })) ∷ []) d) named places in
-    let first : Notes t a (zone_makes (Grant g (2 ^ k)) Granted ∷ []) b = subst (λ (x : ℕ). Notes t a (zone_makes (Grant g x) Granted ∷ []) b) size grants in
-    notes_both t a _ b _ s first (notes_both t b _ d _ s second (notes_both t d _ e _ s third last))
+pub taken_notes : (t : KnownTable) (a m d s : KnownRun) (g k pages f : ℕ) (b : Block) → pages ≡ 2 ^ k → f ≡ b.at → b.order ≡ k
+    → Records t a (zone_makes (Grant g pages) Granted ∷ []) m → Records t m (zone_makes (PlaceBlock g k) (Placed b) ∷ []) d → Records t d (publish_steps f) s
+    → Records t a (taken_steps g k f) s
+taken_notes t a m d s g k pages f b size head order grants places published =
+    let second : Records t m (zone_makes (PlaceBlock g k) (Placed (record { at = f; order = k })) ∷ []) d =
+    subst (λ (x : Block). Records t m (zone_makes (PlaceBlock g k) (Placed x) ∷ []) d) (λ j. record { at = sym head j; order = order j }) places in
+    let first : Records t a (zone_makes (Grant g (2 ^ k)) Granted ∷ []) m = subst (λ (x : ℕ). Records t a (zone_makes (Grant g x) Granted ∷ []) m) size grants in
+    notes_both t a _ m _ s first (notes_both t m _ d _ s second published)
 
 -- ---- no block
 
@@ -412,7 +403,7 @@ module _ (t : KnownTable) (m : KnownMachine) (ok : IsConsistent t m) (facts : Ar
     (is_not_placed t m ok held facts (lock_holder m) g there (2 ^ k) k (omega arith) none, (is_taken_back t m ok facts held (lock_holder m) g there (2 ^ k), refl)),
   )
 
-  module _ (rise : PagesRise m.ledger (with_charge m.ledger g (2 ^ k)) g (2 ^ k)) (run : KnownRun) (noted : Notes t m.run (unplaced_steps g k) run) where
+  module _ (rise : PagesRise m.ledger (with_charge m.ledger g (2 ^ k)) g (2 ^ k)) (run : KnownRun) (noted : Records t m.run (unplaced_steps g k) run) where
     abbrev unplaced : KnownMachine
     unplaced = record m { ledger = with_uncharge (with_charge m.ledger g (2 ^ k)) g (2 ^ k); run = run }
 
@@ -463,7 +454,7 @@ pub record NoneTaken (t : KnownTable) (now n : KnownMachine) (g k : ℕ) : Type 
 pub none_all : (t : KnownTable) (m now : KnownMachine) → m ≡ now → IsConsistent t m → AreCharges m.ledger → IsHeld t now.run.past → (g k pages : ℕ) → pages ≡ 2 ^ k
     → MayCharge now g (2 ^ k) → PathHasRoom m.ledger.groups (current_of m.ledger) g pages → (charged ledger : Ledger) → charged ≡ with_charge m.ledger g pages
     → PagesRise m.ledger charged g pages → ledger ≡ with_uncharge charged g pages
-    → (blocks : List Block) → blocks ≡ m.blocks → HasNoneFrom m.blocks k → (run : KnownRun) → Notes t m.run (unplaced_steps g k) run
+    → (blocks : List Block) → blocks ≡ m.blocks → HasNoneFrom m.blocks k → (run : KnownRun) → Records t m.run (unplaced_steps g k) run
     → NoneTaken t now (record m { blocks = blocks; ledger = ledger; run = run }) g k
 none_all t m now same ok facts held_now g k pages size may_now room charged ledger rises rise falls blocks kept none run noted =
     let held = held_here t m now same held_now in
@@ -486,10 +477,10 @@ none_all t m now same ok facts held_now g k pages size may_now room charged ledg
 abbrev pub unplaced_as : (g pages k : ℕ) → Run
 unplaced_as g pages k = zone_makes (Grant g pages) Granted ∷ zone_makes (PlaceBlock g k) NoFreeBlock ∷ zone_makes (Ungrant g pages) Done ∷ []
 
-pub unplaced_notes : (t : KnownTable) (a b d s : KnownRun) (g k pages : ℕ) → pages ≡ 2 ^ k → Notes t a (zone_makes (Grant g pages) Granted ∷ []) b
-    → Notes t b (zone_makes (PlaceBlock g k) NoFreeBlock ∷ []) d → Notes t d (zone_makes (Ungrant g pages) Done ∷ []) s → Notes t a (unplaced_steps g k) s
+pub unplaced_notes : (t : KnownTable) (a b d s : KnownRun) (g k pages : ℕ) → pages ≡ 2 ^ k → Records t a (zone_makes (Grant g pages) Granted ∷ []) b
+    → Records t b (zone_makes (PlaceBlock g k) NoFreeBlock ∷ []) d → Records t d (zone_makes (Ungrant g pages) Done ∷ []) s → Records t a (unplaced_steps g k) s
 unplaced_notes t a b d s g k pages size grants places takes =
-    subst (λ (x : ℕ). Notes t a (unplaced_as g x k) s) size (notes_both t a _ b _ s grants (notes_both t b _ d _ s places takes))
+    subst (λ (x : ℕ). Records t a (unplaced_as g x k) s) size (notes_both t a _ b _ s grants (notes_both t b _ d _ s places takes))
 
 -- they may be made, if there is none
 pub unplaced_may : (t : KnownTable) (m now : KnownMachine) → m ≡ now → IsConsistent t m → AreCharges m.ledger → IsHeld t now.run.past
@@ -522,7 +513,7 @@ refused_step t m now same ok facts held_now g k pages over may_now low l unchang
 
 pub refused_all : (t : KnownTable) (m now : KnownMachine) → m ≡ now → IsConsistent t m → AreCharges m.ledger → IsHeld t now.run.past → (g k pages over : ℕ)
     → MayCharge now g k → IsLowestOver m.ledger.groups (current_of m.ledger) g pages over → (l : Ledger) → l ≡ m.ledger
-    → (run : KnownRun) → Notes t m.run (over_steps g pages over) run
+    → (run : KnownRun) → Records t m.run (over_steps g pages over) run
     → AllGrouped t m now (zone_makes (Grant g pages) (Over over)) (record m { ledger = l; run = run })
 refused_all t m now same ok facts held g k pages over may low l unchanged run noted =
     grouped t m ok (held_here t m now same held) (zone_makes (Grant g pages) (Over over)) l m.killed

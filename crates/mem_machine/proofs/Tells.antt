@@ -22,7 +22,8 @@ use Rattle.step_rules.proofs.Interleaving.{local_runs_interleave}
 use Rattle.step_rules.proofs.LocalLaws.{own_step_is_legal, other_step_is_hidden}
 use Rattle.step_rules.proofs.Peaking.{peaks_are_kept}
 use Rattle.step_rules.proofs.Noting.{events_are_counted}
-use Rattle.mem_machine.specs.{Moves, moved_along, moves_peak, moves_count, ExistsAfter, lock_holder, local_of, zone_of, LedgersAgree}
+use Rattle.boot_words.specs.{zone_of_boot}
+use Rattle.mem_machine.specs.{Moves, moved_along, moves_peak, moves_count, ExistsAfter, lock_holder, local_of, LedgersAgree}
 use Rattle.mem_machine.proofs.Noted.{run_ends}
 use Rattle.mem_machine.proofs.Followed.{is_still, only_made, Stays, Test, still_peak, below_stays, at_stays, count_begins}
 
@@ -172,7 +173,7 @@ module _ (zone : Zone) (p m : ℕ) where
 
 pub ledgers_agree : LedgersAgree
 ledgers_agree t run steps mixed before behind shows told makes mixes =
-    let zone = zone_of t in
+    let zone = zone_of_boot t in
     let p = lock_holder before in
     let a = local_of t before in
     let b = local_of t behind in

@@ -5,13 +5,13 @@ use Rattle.std.proofs.lemmas.Bool.{ne_eqb}
 use Rattle.group_tree.specs.declared.group.Group.{Group}
 use Rattle.group_tree.specs.Groups.{in_subtree}
 use Rattle.group_charge.specs.Charges.{AreCharges, current_of}
-use Rattle.frame_word.specs.Seats.{KnownTable}
+use Rattle.group_tree.specs.{is_in_subtree}
 use Rattle.step_rules.specs.declared.phase.ChargedUnit.{ChargedUnit}
 use Rattle.step_rules.specs.declared.phase.Stage.TheVariants.{FreshAt, Live, BackAt}
 use Rattle.step_rules.specs.declared.phase.Way.TheVariants.{OnList}
 use Rattle.step_rules.specs.declared.phase.Phase.{Phase}
 use Rattle.step_rules.specs.declared.phase.Phase.TheVariants as phase
-use Rattle.step_rules.specs.{KeepsInvariant, PhasePaid, groups_in, told_pages, keeper_of, Part, one_if, sum_to, Run, state_of, is_in_subtree}
+use Rattle.step_rules.specs.{KeepsInvariant, PhasePaid, groups_in, told_pages, keeper_of, Part, one_if, sum_to, Run, state_of}
 use Rattle.step_rules.specs.{frames_kept, stock_in_subtree, pages_prepaid, pages_pending, usage_of, other_part_seen, parts_seen_by, phase_seen_by}
 use Rattle.step_rules.specs.{seen_by}
 use Rattle.step_rules.specs.State.{State}
@@ -20,7 +20,7 @@ use Rattle.step_rules.proofs.CoverUsage.{usage_seen}
 use Rattle.step_rules.proofs.Freeing.{zone_of_run}
 use Rattle.step_rules.proofs.Runs.{sound_run}
 use Rattle.step_rules.proofs.Sums.{sum_same, sum_none}
-use Rattle.boot_words.specs.{hide, hide_phase, IsHeld, cpu_past, own_past, zone_of_boot}
+use Rattle.boot_words.specs.{hide, hide_phase, IsHeld, cpu_past, own_past, zone_of_boot, KnownTable}
 use Rattle.mem_machine.specs.declared.frame_state.FrameState.{FrameState}
 use Rattle.mem_machine.specs.declared.frame_state.FrameState.TheVariants.{Free, Lent, Head, Tail}
 use Rattle.mem_machine.specs.{frame_state_at, frame_state_group, phase_hidden, KnownMachine, IsConsistent, left_by, local_of}

@@ -2,11 +2,11 @@
 -- blocks.
 use Rattle.std.proofs.Common.{◌≡◌, ◌≢◌, ℕ, true, sym, ap, ◌∙◌, subst}
 use Rattle.std.specs.List.{fold}
-use Rattle.frame_word.specs.Seats.{KnownTable}
+use Rattle.boot_words.specs.Tables.{KnownTable}
 use Rattle.cpu_part.specs.Known.{HasOwn}
 use Rattle.step_rules.specs.State.{State, Part, visits}
 use Rattle.step_rules.specs.After.{Run}
-use Rattle.mem_machine.specs.{StaysVisited, local_of, KnownMachine, Notes, after_made}
+use Rattle.mem_machine.specs.{StaysVisited, local_of, KnownMachine, Records, after_made}
 use Rattle.mem_machine.proofs.Staying.{HaveSameBooks}
 
 -- the same parts have the same books
@@ -14,7 +14,7 @@ pub same_books : (a b : ℕ → Part) → b ≡ a → HaveSameBooks a b
 same_books a b same = record { book = λ k. ap (λ (p : ℕ → Part). (p k).book) same; group = λ k. ap (λ (p : ℕ → Part). (p k).stock.group) same }
 
 -- each visit stays open
-pub zone_visited : (t : KnownTable) (m n : KnownMachine) (steps : Run) → Notes t m.run steps n.run
+pub zone_visited : (t : KnownTable) (m n : KnownMachine) (steps : Run) → Records t m.run steps n.run
     → (fold after_made (local_of t m) steps).hold ≡ (local_of t m).hold → (fold after_made (local_of t m) steps).parts ≡ (local_of t m).parts
     → ((p : ℕ) → p ≢ 0 → (fold after_made (local_of t m) steps).references p ≡ (local_of t m).references p) → StaysVisited t m n
 zone_visited t m n steps noted hold parts references c visit =

@@ -4,9 +4,9 @@ use Rattle.zone_blocks.specs.declared.block.Block.{Block}
 use Rattle.zone_blocks.specs.Areas.{AreMaximalBlocks, HasNoneFrom, IsFrontOfSmallest}
 use Rattle.group_tree.specs.Room.{PathHasRoom}
 use Rattle.group_charge.specs.Charges.{current_of, with_charge, with_uncharge}
-use Rattle.step_rules.specs.declared.step.Action.TheVariants.{Grant, Ungrant, PlaceBlock, Unfreeze, Publish}
+use Rattle.step_rules.specs.declared.step.Action.TheVariants.{Grant, Ungrant, PlaceBlock}
 use Rattle.step_rules.specs.declared.step.Answer.TheVariants.{Done, Granted, Placed, NoFreeBlock}
-use Rattle.step_rules.specs.After.{Run, is_within}
+use Rattle.step_rules.specs.After.{Run, is_within, zone_makes}
 use Rattle.mem_machine.specs.declared.frame_state.FrameState.{FrameState}
 use Rattle.mem_machine.specs.declared.frame_state.FrameState.TheVariants.{Head, Tail}
 use Rattle.mem_machine.specs.declared.blocks.TakeFault.{TakeFault}
@@ -14,7 +14,7 @@ use Rattle.mem_machine.specs.declared.blocks.TakeFault.TheVariants as fault
 use Rattle.mem_machine.specs.FrameStates.{frame_state_at, free_of}
 use Rattle.mem_machine.specs.Lists.{ListsUnit}
 use Rattle.mem_machine.specs.Machines.{KnownMachine, LacksRoom}
-use Rattle.mem_machine.specs.Steps.{over_steps, zone_makes}
+use Rattle.mem_machine.specs.Steps.{over_steps, publish_steps}
 
 -- the record of a frame after the block became a unit of the group: the block's first frame is the head, its other
 -- frames are tails
@@ -68,9 +68,7 @@ abbrev pub taken_steps : ℕ → ℕ → ℕ → Run
 taken_steps group order at =
     zone_makes (Grant group (2 ^ order)) Granted
     ∷ zone_makes (PlaceBlock group order) (Placed (record { at = at; order = order }))
-    ∷ zone_makes (Unfreeze at 1) Done
-    ∷ zone_makes (Publish at) Done
-    ∷ []
+    ∷ publish_steps at
 
 -- the steps if there is no free block of the order or above
 abbrev pub unplaced_steps : ℕ → ℕ → Run

@@ -5,14 +5,13 @@ use Rattle.group_charge.specs.{unit_noted, UsageRises, with_uncharge}
 use Rattle.step_rules.specs.declared.phase.ChargedUnit.{ChargedUnit}
 use Rattle.step_rules.specs.declared.step.Action.TheVariants.{Freeze, Return}
 use Rattle.step_rules.specs.declared.step.Answer.TheVariants.{Done, Missed}
-use Rattle.step_rules.specs.After.{Run}
+use Rattle.step_rules.specs.After.{Run, zone_makes}
 use Rattle.mem_machine.specs.declared.frame_state.FrameState.TheVariants.{Head}
 use Rattle.mem_machine.specs.FrameStates.{frame_state_at, free_of}
 use Rattle.mem_machine.specs.Machines.{KnownMachine, lists_of}
 use Rattle.mem_machine.specs.Counts.{with_freeze, with_miss}
 use Rattle.mem_machine.specs.Freeing.{FreesFrames}
 use Rattle.mem_machine.specs.Lists.{LeavesList}
-use Rattle.mem_machine.specs.Steps.{zone_makes}
 
 -- someone else has a reference on the unit: one more miss is counted, and nothing else changed, except the run
 abbrev pub MissesUnit : KnownMachine → KnownMachine → Type 0

@@ -1,6 +1,6 @@
 -- What contracts see of the machine's fields, and what always holds of them.
 use Rattle.std.specs.Prelude.{◌≡◌}
-use Rattle.frame_word.specs.Seats.{KnownTable}
+use Rattle.boot_words.specs.Tables.{KnownTable}
 use Rattle.mem_machine.specs.declared.machine.Machine.TheInside.{Inside}
 use Rattle.mem_machine.specs.FrameStates.{free_of}
 use Rattle.mem_machine.specs.Booked.{AreBooked, AreOwners}

@@ -1,8 +1,8 @@
 -- How frames move between the free areas and a CPU's list.
 use Rattle.std.specs.Prelude.{◌≡◌, ℕ, ◌+◌, ◌≤◌, Bool, true, false, List, [], ◌∷◌, ◌++◌, length, take, slice_set}
 use Rattle.zone_blocks.specs.Areas.{AreMaximalBlocks, HasNoneFrom, IsFrontOfSmallest}
-use Rattle.frame_word.specs.Seats.{KnownTable}
-use Rattle.cpu_part.specs.Cpus.{KnownCpu, most_listed}
+use Rattle.boot_words.specs.Tables.{KnownTable}
+use Rattle.cpu_part.specs.Cpus.{KnownCpuLists, most_listed}
 use Rattle.step_rules.specs.After.{Run}
 use Rattle.mem_machine.specs.declared.frame_state.FrameState.TheVariants.{Free, Lent}
 use Rattle.mem_machine.specs.FrameStates.{free_of}
@@ -32,7 +32,7 @@ pub record LendsNone (before after : VisitState) : Type 0 where
   pub stays : VisitStateStays before after
 
 -- the CPU's list has room for this many more frames: with them, listed and fresh frames are at most `most_listed`
-abbrev pub HasListRoom : KnownCpu → ℕ → Type 0
+abbrev pub HasListRoom : KnownCpuLists → ℕ → Type 0
 HasListRoom cpu count = length cpu.list + length cpu.fresh + count ≤ most_listed
 
 -- these frames are lent, one after the other

@@ -35,13 +35,13 @@ pub use Rattle.mem_machine.specs.Counts.{BalancesCounts, no_counts, with_freeze,
 pub use Rattle.mem_machine.specs.Machines.{AddsGroup, FitsFrameState, HeadsKeptUnit, IsConsistent, IsCpuOf, IsFirst, IsShownBy, KnownMachine}
 pub use Rattle.mem_machine.specs.Machines.{LacksRoom, OneByOne, OthersStay, UnlistedStay, VisitState, VisitStateStays, active_in, booked, entries_in}
 pub use Rattle.mem_machine.specs.Machines.{frames_charged, group_lists, home_of, inactive_in, is_killed, left_by, lists_at, lists_of, no_lists}
-pub use Rattle.mem_machine.specs.Machines.{pages_booked, part_at, stock_group, visit_state, with_note, with_past, with_run, with_unit_notes}
+pub use Rattle.mem_machine.specs.Machines.{pages_booked, part_at, stock_group, visit_state, with_note, with_past, with_run, with_detail_notes}
 pub use Rattle.mem_machine.specs.Machines.{with_watch, without_notes}
 pub use Rattle.mem_machine.specs.Kept.{IsSoundMachine, machine_of}
 pub use Rattle.mem_machine.specs.Following.{ExistsAfter, FollowsSteps, Moves, moved_along, moves_count, moves_peak}
 pub use Rattle.mem_machine.specs.Counting.{counts_after, counts_along, is_back_passing, one_more_freeze, one_more_last_put, one_more_return}
 pub use Rattle.mem_machine.specs.Local.{Holds, IsOpen, IsShut, KeepsVisit, Makes, StaysVisited, VisitDoes, VisitMakes, Visits, group_of_fresh}
-pub use Rattle.mem_machine.specs.Local.{local_of, lock_holder, number_or_0, phase_of}
+pub use Rattle.mem_machine.specs.Local.{local_of, lock_holder, phase_of}
 pub use Rattle.mem_machine.specs.Transitions.{BySteps, Finds, InTurn, MachineStays, OfMachineAlone, Stays, Transition, transition}
 pub use Rattle.mem_machine.specs.Start.{AreEmpty}
 pub use Rattle.mem_machine.specs.Steps.{Drain, drain_list_steps, drain_steps, drain_stocks_steps, fill_steps, kill_steps, lend_steps, make_steps}
@@ -62,7 +62,7 @@ pub use Rattle.mem_machine.specs.Freeing.{FreesFrames}
 pub use Rattle.mem_machine.specs.Lists.{JoinsList, LeavesList}
 pub use Rattle.mem_machine.specs.Blocks.{PlacesUnit, RefusesBlock, TakesBlock, TakesNoBlock, block_steps, placed_frame_state, taken_steps}
 pub use Rattle.mem_machine.specs.Blocks.{unplaced_steps}
-pub use Rattle.mem_machine.specs.Interleaving.{CallsInterleave, IsInterleaving, Shows, zone_of}
+pub use Rattle.mem_machine.specs.Interleaving.{CallsInterleave, IsInterleaving, Shows}
 pub use Rattle.mem_machine.specs.Agreeing.{AgreesWithRun, LedgersAgree}
 pub use Rattle.mem_machine.specs.Releasing.{LeavesReferences, Releases, ReturnsUnit, release_steps}
 pub use Rattle.mem_machine.specs.Evicting.{Evicts, EvictsUnit, MissesUnit, evict_steps}
@@ -72,5 +72,5 @@ pub use Rattle.mem_machine.specs.Settling.{fresh_steps, is_fresh_killed, keep_st
 pub use Rattle.mem_machine.specs.Paying.{HasRoomFor, HoldsPage, IsOfSize, MayCharge, PaysForFront}
 pub use Rattle.mem_machine.specs.Places.{NoneLentTo, frames_free, frames_in_groups}
 pub use Rattle.mem_machine.specs.Showing.{ListedUnit, listed, stock_left, stock_now, units_in}
-pub use Rattle.mem_machine.specs.Noted.{AreLocal, KnownRun, MayTake, MayTakeAll, Notes, PastsGrowBy, after_made}
+pub use Rattle.mem_machine.specs.Noted.{AreLocal, KnownRun, MayTake, MayTakeAll, Records, PastsGrowBy, after_made}
 pub use Rattle.mem_machine.specs.Resting.{Rests}

@@ -3,7 +3,6 @@ use Rattle.std.specs.Prelude.{◌≡◌, ◌≢◌, ℕ, ◌+◌, ◌<◌, ◌�
 use Rattle.std.specs.List.{slice_index_or}
 use Rattle.zone_blocks.specs.declared.block.Block.{Block}
 use Rattle.zone_blocks.specs.Areas.{AreMaximalBlocks}
-use Rattle.frame_word.specs.Seats.{KnownTable}
 use Rattle.group_charge.specs.{Ledger, pages_of, current_of, initial_ledger, with_new_group, KnownNotes, detail_noted, forgotten, no_notes, noted}
 use Rattle.group_tree.specs.{most_groups, IsLeastFreeNumber, IsLowestOver}
 use Rattle.lru_lists.specs.declared.record.Link.{Link}
@@ -14,10 +13,11 @@ use Rattle.lru_lists.specs.declared.record.LruList.TheVariants.{Inactive, Active
 use Rattle.lru_lists.specs.declared.lru.Lru.{Lru}
 use Rattle.lru_lists.specs.declared.queue.Queue.{Queue}
 use Rattle.lru_lists.specs.{link_at, AreNowhere, AllLinked, entries_of}
+use Rattle.stock_word.specs.Stock.{group_base}
 use Rattle.step_rules.specs.{told_pages, Part, one_if, sum_to, state_of}
 use Rattle.step_rules.specs.State.{State}
-use Rattle.boot_words.specs.{hide, KnownPasts, own_past, zone_of_boot, seat_at_first}
-use Rattle.cpu_part.specs.Cpus.{KnownCpu}
+use Rattle.boot_words.specs.{hide, KnownPasts, own_past, zone_of_boot, seat_at_first, KnownTable}
+use Rattle.cpu_part.specs.Cpus.{KnownCpuLists}
 use Rattle.mem_machine.specs.declared.frame_state.FrameState.{FrameState}
 use Rattle.mem_machine.specs.declared.frame_state.FrameState.TheVariants.{Free}
 use Rattle.mem_machine.specs.declared.counts.Counts.{Counts}
@@ -58,8 +58,8 @@ abbrev pub without_notes : KnownMachine → KnownMachine
 without_notes machine = record machine { notes = forgotten machine.notes }
 
 -- the machine with details noted from now on, or not
-abbrev pub with_unit_notes : KnownMachine → (is_on : Bool) → KnownMachine
-with_unit_notes machine is_on = record machine { notes = record machine.notes { notes_units = is_on } }
+abbrev pub with_detail_notes : KnownMachine → (is_on : Bool) → KnownMachine
+with_detail_notes machine is_on = record machine { notes = record machine.notes { notes_details = is_on } }
 
 -- the machine with another run
 abbrev pub with_run : KnownMachine → KnownRun → KnownMachine
@@ -177,7 +177,7 @@ pub record IsShownBy (table : KnownTable) (machine : KnownMachine) (state : Stat
   pub references : (frame : ℕ) → state.references 0 frame ≡ one_if (is_some (home_of machine.links frame))
   pub settled : (group : ℕ) → state.pending group ≡ 0
   pub absorbed : (cpu : ℕ) → told_pages (state.parts cpu) ≡ 0
-  pub bounded : (cpu : ℕ) → (state.parts cpu).book < 65536
+  pub bounded : (cpu : ℕ) → (state.parts cpu).book < group_base
   pub charged : (group : ℕ)
       → pages_of machine.ledger group
       ≡ frames_charged machine.frame_states group + pages_booked table.cpus state.parts group
@@ -228,20 +228,15 @@ LacksRoom machine group pages lowest =
 -- state to another.
 pub record VisitState : Type 0 where
   pub machine : KnownMachine
-  pub cpu : KnownCpu
+  pub cpu : KnownCpuLists
 
 -- the visit state of this machine and this part
-abbrev pub visit_state : KnownMachine → KnownCpu → VisitState
+abbrev pub visit_state : KnownMachine → KnownCpuLists → VisitState
 visit_state machine cpu = record { machine = machine; cpu = cpu }
 
 -- nothing of the visit state changed
 pub record VisitStateStays (before after : VisitState) : Type 0 where
   pub machine : after.machine ≡ before.machine
-  pub cpu : after.cpu ≡ before.cpu
-
--- nothing of the visit state changed, except what the machine's watch saw
-pub record OnlyWatches (before after : VisitState) : Type 0 where
-  pub machine : after.machine ≡ record before.machine { run = after.machine.run }
   pub cpu : after.cpu ≡ before.cpu
 
 -- `First` leads from the visit state before to a visit state between, and `Rest` leads from there to the visit state

@@ -1,12 +1,11 @@
 -- What the machine has of the run: the pasts and the watch. Under the lock both go on with each step.
 use Rattle.std.specs.Prelude.{◌≡◌, ℕ, [], ◌∷◌, ⊤}
 use Rattle.std.specs.List.{fold}
-use Rattle.frame_word.specs.Seats.{KnownTable}
 use Rattle.step_rules.specs.declared.step.Step.{Step}
 use Rattle.step_rules.specs.declared.step.Answer.{Answer}
 use Rattle.step_rules.specs.State.{State}
 use Rattle.step_rules.specs.{Run, after, IsLocalStep}
-use Rattle.boot_words.specs.{KnownPasts, IsHeld, MakesStep, cpu_past, local_by_pasts, own_past, GrewByAll}
+use Rattle.boot_words.specs.{KnownPasts, IsHeld, MakesStep, cpu_past, local_by_pasts, own_past, GrewByAll, KnownTable}
 use Rattle.step_watch.specs.Watched.{KnownWatch, Watches}
 
 -- the zone's past, which has that of the lock's holder too, and the watch
@@ -28,7 +27,7 @@ pub record PastsGrowBy (table : KnownTable) (before : KnownPasts) (steps : Run) 
   pub cpu_grew : IsHeld table before → GrewByAll (cpu_past before) steps (cpu_past later)
 
 -- the pasts have grown by these steps, and the watch took them
-pub record Notes (table : KnownTable) (before : KnownRun) (steps : Run) (later : KnownRun) : Type 0 where
+pub record Records (table : KnownTable) (before : KnownRun) (steps : Run) (later : KnownRun) : Type 0 where
   pub grew : PastsGrowBy table before.past steps later.past
   pub watched : Watches before.watch steps later.watch
 

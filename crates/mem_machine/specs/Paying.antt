@@ -1,7 +1,7 @@
 -- What a CPU's stock holds, how a page of it pays for a frame, and what may be charged.
 use Rattle.std.specs.Prelude.{◌≡◌, ℕ, ◌+◌, ◌^◌, ◌<◌, ◌≤◌, false, IsTrue}
-use Rattle.frame_word.specs.Seats.{KnownTable}
-use Rattle.stock_word.specs.declared.view.Stock.TheVariants.{HeldBy}
+use Rattle.stock_word.specs.declared.stock.Stock.TheVariants.{HeldBy}
+use Rattle.boot_words.specs.Tables.{KnownTable}
 use Rattle.cpu_part.specs.Calls.{TakesFront}
 use Rattle.group_tree.specs.Groups.{has_group}
 use Rattle.zone_blocks.specs.Config.{most_cpus, most_frames}

@@ -5,7 +5,7 @@ use Rattle.group_charge.specs.Charges.{with_uncharge}
 use Rattle.step_rules.specs.declared.phase.ChargedUnit.{ChargedUnit}
 use Rattle.step_rules.specs.declared.step.Action.TheVariants.{Put, Return}
 use Rattle.step_rules.specs.declared.step.Answer.TheVariants as answer
-use Rattle.step_rules.specs.After.{Run}
+use Rattle.step_rules.specs.After.{Run, zone_makes}
 use Rattle.mem_machine.specs.declared.frame_state.FrameState.TheVariants.{Head}
 use Rattle.mem_machine.specs.declared.releasing.Released.{Released}
 use Rattle.mem_machine.specs.declared.releasing.Released.TheVariants.{Left, Returned}
@@ -14,7 +14,6 @@ use Rattle.mem_machine.specs.Lists.{LeavesList}
 use Rattle.mem_machine.specs.Machines.{KnownMachine, lists_of}
 use Rattle.mem_machine.specs.Counts.{with_last_put}
 use Rattle.mem_machine.specs.Freeing.{FreesFrames}
-use Rattle.mem_machine.specs.Steps.{zone_makes}
 
 -- the unit left its list, and this many references of CPUs are left; nothing else changed, except the run
 pub record LeavesReferences (frame left : ℕ) (before after : KnownMachine) : Type 0 where

@@ -1,6 +1,5 @@
 -- The machine while nobody holds its lock.
-use Rattle.frame_word.specs.Seats.{KnownTable}
-use Rattle.boot_words.specs.{LeavesFree, IsZonePast, own_past, zone_of_boot}
+use Rattle.boot_words.specs.{LeavesFree, IsZonePast, own_past, zone_of_boot, KnownTable}
 use Rattle.mem_machine.specs.Machines.{KnownMachine}
 
 -- nobody holds the lock by the machine's past, which is the zone's alone

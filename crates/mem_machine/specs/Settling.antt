@@ -2,24 +2,25 @@
 use Rattle.std.specs.Prelude.{◌≡◌, ℕ, ◌^◌, Bool, true, false, Option, Some, None, IfSome, List, [], ◌∷◌, ◌++◌, slice_set, if◌then◌else◌}
 use Rattle.std.specs.List.{flat_map}
 use Rattle.zone_blocks.specs.Areas.{AreMaximalBlocks}
-use Rattle.frame_word.specs.Seats.{KnownTable}
 use Rattle.group_charge.specs.Charges.{with_uncharge}
 use Rattle.step_rules.specs.declared.phase.ChargedUnit.{ChargedUnit}
-use Rattle.step_rules.specs.declared.step.Action.TheVariants.{PassBack, Collect, Report, Absorb, Unfreeze, Publish, Return}
-use Rattle.step_rules.specs.declared.step.Answer.TheVariants.{Done, Pages}
-use Rattle.step_rules.specs.After.{Run}
-use Rattle.cpu_part.specs.Cpus.{KnownCpu}
+use Rattle.step_rules.specs.declared.step.Action.TheVariants.{Return}
+use Rattle.step_rules.specs.declared.step.Answer.TheVariants.{Done}
+use Rattle.step_rules.specs.After.{Run, zone_makes}
+use Rattle.boot_words.specs.Composed.{take_back_run}
+use Rattle.boot_words.specs.Tables.{KnownTable}
+use Rattle.cpu_part.specs.Cpus.{KnownCpuLists}
 use Rattle.mem_machine.specs.declared.frame_state.FrameState.TheVariants.{Head}
 use Rattle.mem_machine.specs.FrameStates.{frame_state_at, free_of}
 use Rattle.mem_machine.specs.Machines.{OneByOne, VisitState, VisitStateStays, is_killed}
 use Rattle.mem_machine.specs.Local.{VisitMakes, group_of_fresh}
-use Rattle.mem_machine.specs.Steps.{zone_makes, cpu_makes}
+use Rattle.mem_machine.specs.Steps.{publish_steps, unlist_steps}
 use Rattle.mem_machine.specs.Lists.{ListsUnit}
 use Rattle.mem_machine.specs.Counts.{with_killed_fresh, with_last_put}
 use Rattle.mem_machine.specs.Freeing.{FreesFrames}
 
 -- the CPU passes its oldest fresh frame back
-pub record HandsOver (frame : ℕ) (before after : KnownCpu) : Type 0 where
+pub record HandsOver (frame : ℕ) (before after : KnownCpuLists) : Type 0 where
   pub front : before.fresh ≡ frame ∷ after.fresh
   pub cpu : after ≡ record before { fresh = after.fresh }
 
@@ -104,13 +105,13 @@ abbrev pub ReturnsAllBack : List ℕ → VisitState → VisitState → Type 0
 ReturnsAllBack frames before after = OneByOne ReturnsBack frames before after
 
 -- the CPU keeps its number, its list and its pins
-pub record LeavesOthers (before after : KnownCpu) : Type 0 where
+pub record LeavesOthers (before after : KnownCpuLists) : Type 0 where
   pub number : after.number ≡ before.number
   pub list : after.list ≡ before.list
   pub pins : after.pins ≡ before.pins
 
 -- the CPU has nothing to settle: none of its frames is fresh or back
-abbrev pub IsSettled : KnownCpu → Type 0
+abbrev pub IsSettled : KnownCpuLists → Type 0
 IsSettled cpu = (cpu.fresh ≡ []) × (cpu.back ≡ [])
 
 -- all fresh frames are settled, in the order in which they were taken; then the units of all back frames are freed, in
@@ -124,17 +125,11 @@ pub record Settles (table : KnownTable) (before after : VisitState) : Type 0 whe
 
 -- the steps by which the zone takes over a fresh frame, after which its page is no longer booked to the stock
 abbrev pub collect_steps : ℕ → ℕ → Run
-collect_steps cpu frame =
-    cpu_makes cpu (PassBack frame) Done
-    ∷ cpu_makes cpu (Report 1) Done
-    ∷ zone_makes (Collect frame cpu) Done
-    ∷ zone_makes (Absorb cpu) (Pages 1)
-    ∷ []
+collect_steps cpu frame = take_back_run cpu frame
 
 -- the steps of a fresh frame that is kept
 abbrev pub keep_steps : ℕ → ℕ → Run
-keep_steps cpu frame =
-    collect_steps cpu frame ++ zone_makes (Unfreeze frame 1) Done ∷ zone_makes (Publish frame) Done ∷ []
+keep_steps cpu frame = collect_steps cpu frame ++ publish_steps frame
 
 -- the steps of a fresh frame that is dropped
 abbrev pub drop_steps : ℕ → ℕ → Run
@@ -142,11 +137,7 @@ drop_steps cpu frame = collect_steps cpu frame ++ zone_makes (Return frame) Done
 
 -- the steps of a back frame, whose unit is freed
 abbrev pub return_steps : ℕ → ℕ → Run
-return_steps cpu frame =
-    cpu_makes cpu (PassBack frame) Done
-    ∷ zone_makes (Collect frame cpu) Done
-    ∷ zone_makes (Return frame) Done
-    ∷ []
+return_steps cpu frame = unlist_steps cpu frame ++ zone_makes (Return frame) Done ∷ []
 
 -- the steps of a fresh frame: dropped if its group is killed, else kept
 abbrev pub fresh_steps : Bool → ℕ → ℕ → Run

@@ -1,8 +1,7 @@
 -- What the machine shows of a group's kept units and of a CPU's stock.
 use Rattle.std.specs.Prelude.{ℕ, List, ◌++◌, map}
-use Rattle.frame_word.specs.Seats.{KnownTable}
-use Rattle.stock_word.specs.declared.view.Stock.{Stock}
-use Rattle.boot_words.specs.{stock_in, own_past, zone_of_boot}
+use Rattle.stock_word.specs.declared.stock.Stock.{Stock}
+use Rattle.boot_words.specs.{stock_in, own_past, zone_of_boot, KnownTable}
 use Rattle.lru_lists.specs.declared.record.Entry.{Entry}
 use Rattle.lru_lists.specs.declared.record.LruList.{LruList}
 use Rattle.lru_lists.specs.declared.record.LruList.TheVariants.{Inactive, Active}

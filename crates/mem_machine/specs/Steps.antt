@@ -3,12 +3,11 @@ use Rattle.std.specs.Prelude.{ℕ, zero, suc, Bool, Option, Some, None, List, []
 use Rattle.std.specs.List.{flat_map}
 use Rattle.step_rules.specs.declared.step.NoteKey.{NoteKey}
 use Rattle.step_rules.specs.declared.step.NoteKey.TheVariants.{Max, Oom}
-use Rattle.step_rules.specs.declared.step.Action.TheVariants.{OpenVisit, ShutVisit, PassOut, TakeIn, PassBack, Collect, Fill, DrainStock, Grant, Ungrant, Consume, Note, Kill}
-use Rattle.step_rules.specs.declared.step.Action.TheVariants.{NoteGroupKill, SetMax, SetFlag, Make, Remove}
+use Rattle.step_rules.specs.declared.step.Action.TheVariants.{OpenVisit, ShutVisit, PassBack, Collect, Fill, DrainStock, Grant, Ungrant, Consume, Note, Kill}
+use Rattle.step_rules.specs.declared.step.Action.TheVariants.{Unfreeze, Publish, NoteGroupKill, SetMax, SetFlag, Make, Remove}
 use Rattle.step_rules.specs.declared.step.Answer.TheVariants.{Done, Took, Pages, Granted, Over, Number}
-use Rattle.step_rules.specs.After.{Run}
--- a step of the zone's seat or of a CPU's, with its answer
-pub use Rattle.step_watch.specs.Watched.{zone_makes, cpu_makes}
+use Rattle.step_rules.specs.After.{Run, cpu_makes, zone_makes}
+use Rattle.boot_words.specs.Composed.{lend_run}
 
 -- the CPU's visit begins
 abbrev pub open_steps : ℕ → Run
@@ -20,7 +19,7 @@ shut_steps cpu = zone_makes (ShutVisit cpu) Done ∷ []
 
 -- the zone passes the free frame to the CPU, which adds it to the end of its list
 abbrev pub lend_steps : ℕ → ℕ → Run
-lend_steps cpu frame = zone_makes (PassOut frame cpu) Done ∷ cpu_makes cpu (TakeIn frame) Done ∷ []
+lend_steps cpu frame = lend_run cpu frame
 
 -- these frames are added to the end of the CPU's list, one after the other
 abbrev pub refill_steps : ℕ → List ℕ → Run
@@ -34,6 +33,10 @@ unlist_steps cpu frame =
 -- these frames are returned to the free areas, one after the other
 abbrev pub drain_list_steps : ℕ → List ℕ → Run
 drain_list_steps cpu frames = flat_map (unlist_steps cpu) frames
+
+-- the unit that the frame heads gets the zone's reference, and is published
+abbrev pub publish_steps : ℕ → Run
+publish_steps head = zone_makes (Unfreeze head 1) Done ∷ zone_makes (Publish head) Done ∷ []
 
 -- this many pages leave the group's charge; if there are none, or there is no group, there is no step
 abbrev pub ungrant_steps : Option ℕ → ℕ → Run

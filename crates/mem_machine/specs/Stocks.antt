@@ -1,12 +1,14 @@
 -- How stocks are drained and filled.
 use Rattle.std.specs.Prelude.{◌≡◌, ◌⊎◌, ℕ, zero, suc, ◌+◌, ◌≤◌, ◌<◌, ◌↔◌, Bool, true, false, Option, Some, None, List, [], ◌∷◌, ◌++◌}
 use Rattle.std.specs.Int.{bit_at}
-use Rattle.frame_word.specs.Seats.{KnownTable}
 use Rattle.group_tree.specs.Room.{PathHasRoom}
 use Rattle.group_charge.specs.{Ledger, current_of, with_charge, with_uncharge, noted}
 use Rattle.group_tree.specs.declared.group.Group.{Group}
 use Rattle.group_charge.specs.declared.note.Note.TheVariants.{Stock}
-use Rattle.step_rules.specs.{Part, is_in_subtree, is_of_group, drained, filled, with_part}
+use Rattle.group_tree.specs.{is_in_subtree}
+use Rattle.stock_word.specs.Stock.{group_base}
+use Rattle.step_rules.specs.{Part, is_of_group, drained, filled, with_part}
+use Rattle.boot_words.specs.Tables.{KnownTable}
 use Rattle.mem_machine.specs.Machines.{KnownMachine, left_by, part_at}
 use Rattle.mem_machine.specs.Local.{Makes}
 use Rattle.mem_machine.specs.Steps.{Drain, drain_stocks_steps, over_steps, pages_drained}
@@ -28,7 +30,7 @@ IsDrained table machine cpu = HasDrained (part_at table machine cpu)
 
 -- a stock can take this many pages: at least one, and as many as fit its word
 abbrev pub FitsStock : ℕ → Type 0
-FitsStock pages = (0 < pages) × (pages < 65536)
+FitsStock pages = (0 < pages) × (pages < group_base)
 
 -- The CPU's stock is drained of this many pages. They are no longer booked to the stock, nor charged to its group. A
 -- stock that is already drained gives 0 pages. Nothing else that the run leaves has changed.
@@ -102,10 +104,6 @@ abbrev pub DrainsAllIf : KnownTable → StockTest → ℕ → List Drain → Kno
 DrainsAllIf table test zero drains before after = (drains ≡ []) × (after ≡ before)
 DrainsAllIf table test (suc count) drains before after =
     DrainsInTurn (DrainsAllIf table test count) (DrainsIf table test (suc count)) drains before after
-
--- the CPU's stock is drained if it is of a group in this group's subtree
-abbrev pub DrainsBelow : KnownTable → ℕ → ℕ → List Drain → KnownMachine → KnownMachine → Type 0
-DrainsBelow table group cpu drains before after = DrainsIf table (of_subtree group) cpu drains before after
 
 -- of the stocks of CPUs 1 to `count`, those of the group's subtree are drained
 abbrev pub DrainsAllBelow : KnownTable → ℕ → ℕ → List Drain → KnownMachine → KnownMachine → Type 0

@@ -1,7 +1,7 @@
 -- How a call is described by its steps.
 use Rattle.std.specs.Prelude.{◌≡◌, [], ◌++◌}
-use Rattle.frame_word.specs.Seats.{KnownTable}
 use Rattle.step_rules.specs.After.{Run}
+use Rattle.boot_words.specs.Tables.{KnownTable}
 use Rattle.mem_machine.specs.Machines.{KnownMachine, VisitState}
 
 -- The transition of a call at a table: the state before, its steps with their answers, and the state after. The state

@@ -19,7 +19,7 @@ impl<N: BootName> Machine<N> {
     /// leave the active list no longer than the inactive one.
     pub fn age(&mut self, group: GroupId)
         ensures ages { AgesGroup group self.old self.new }
-        ensures steps { Makes N.frames self.old [] self.new }
+        ensures steps { Makes N.table self.old [] self.new }
     {
         let owner = group.number() as usize;
         list_laws::others_stay_linked();
@@ -30,10 +30,10 @@ impl<N: BootName> Machine<N> {
     /// Moves an inactive unit of a group, unmarked, to the newest end of the group's inactive list. `head` is the
     /// unit's head.
     pub fn renew(&mut self, group: GroupId, head: Frame)
-        requires frame { head < N.frames.frames }
+        requires frame { head < N.table.frames }
         requires home { home_of self.old.links head ≡ Some (record { owner = group; list = Inactive }) }
         ensures renews { RenewsUnit group head self.old self.new }
-        ensures steps { Makes N.frames self.old [] self.new }
+        ensures steps { Makes N.table self.old [] self.new }
     {
         let at = head.number();
         let owner = group.number() as usize;
@@ -59,7 +59,7 @@ impl<N: BootName> Machine<N> {
     /// The next newer unit on the list of the group that holds this one; None exactly if this is the newest. A walk
     /// over a list calls `oldest` first, and then `newer` from each unit to the next.
     pub fn newer(&self, group: GroupId, list: LruList, head: Frame) -> Option<Entry>
-        requires frame { head < N.frames.frames }
+        requires frame { head < N.table.frames }
         requires home { home_of self.now.links head ≡ Some (record { owner = group; list = list }) }
         ensures { result ≡ entry_after head (entries_in self.now group list) }
     {

@@ -9,6 +9,7 @@ use crate::frame_state::FrameState;
 use crate::lists::join_list;
 use crate::machine::Machine;
 use crate::proving::prove_charges;
+use crate::publishing::publish;
 use crate::stepping::make_step;
 use cpu_part::{BootName, CpuLists, Tables};
 use frame_word::Frame;
@@ -55,22 +56,21 @@ impl<N: BootName> Machine<N> {
         group: GroupId,
         order: Order,
     ) -> Result<Frame, TakeFault>
-        requires visit { Visits N.frames self.old cpu.old }
+        requires visit { Visits N.table self.old cpu.old }
         requires charges { MayCharge self.old group (2 ^ order) }
         requires none_fresh { cpu.old.fresh ≡ [] }
         requires none_back { cpu.old.back ≡ [] }
         ensures takes { IfOk result (λ head. TakesBlock group order head self.old self.new) }
         ensures refuses { IfErr result (λ fault. RefusesBlock group order fault self.old self.new) }
         ensures cpu { cpu.new ≡ cpu.old }
-        ensures visit { Visits N.frames self.new cpu.new }
-        ensures steps { Makes N.frames self.old (block_steps group order result) self.new }
+        ensures visit { Visits N.table self.new cpu.new }
+        ensures steps { Makes N.table self.old (block_steps group order result) self.new }
     {
         let pages = order.frames();
         prove_charges(&self.charges);
         if let Err(over) = self.charges.try_charge(group, pages) {
-            let full = over.group;
             make_step(tables, &mut self.past, &mut self.watch, || {
-                (Action::Grant { group, pages }, Answer::Over(full))
+                (Action::Grant { group, pages }, Answer::Over(over.group))
             });
             return Err(TakeFault::Over(over));
         }
@@ -90,21 +90,12 @@ impl<N: BootName> Machine<N> {
         let Some(head) = tables.words.frame(block.at) else {
             unreachable!()
         };
-        let frame = head.number();
         place_unit(&mut self.frame_states, block, group);
         make_step(tables, &mut self.past, &mut self.watch, || {
-            (
-                Action::PlaceBlock { group, order },
-                Answer::Placed(Block { at: frame, order }),
-            )
+            (Action::PlaceBlock { group, order }, Answer::Placed(block))
         });
-        tables.words.unfreeze(&mut self.past, head, 1);
-        self.watch
-            .take(0, || (Action::Unfreeze { frame, count: 1 }, Answer::Done));
-        join_list(&mut self.links, &mut self.lists, group, frame);
-        make_step(tables, &mut self.past, &mut self.watch, || {
-            (Action::Publish { frame }, Answer::Done)
-        });
+        join_list(&mut self.links, &mut self.lists, group, block.at);
+        publish(tables, &mut self.past, &mut self.watch, head);
         Ok(head)
     }
 }

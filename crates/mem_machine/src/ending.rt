@@ -14,7 +14,7 @@ impl<N: BootName> Machine<N> {
     /// but up to 1,048,576 frames.
     pub fn count_charged(&self, tables: &Tables<N>) -> u32
         ensures charged { result ≡ frames_in_groups self.now.frame_states }
-        ensures at_most { result ≤ N.frames.frames }
+        ensures at_most { result ≤ N.table.frames }
     {
         prove_sizes(tables);
         prove_charges(&self.charges);
@@ -28,7 +28,7 @@ impl<N: BootName> Machine<N> {
     /// Shows that no frame is lent to the CPU that holds the lock, if it has no listed and no fresh frame. It does
     /// nothing.
     pub fn prove_none_lent(&self, cpu: &CpuLists<N>)
-        requires holds { Holds N.frames self.now cpu.now }
+        requires holds { Holds N.table self.now cpu.now }
         requires none_listed { cpu.now.list ≡ [] }
         requires none_fresh { cpu.now.fresh ≡ [] }
         ensures { NoneLentTo cpu.now.number self.now.frame_states }

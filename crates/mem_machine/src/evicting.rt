@@ -17,15 +17,15 @@ use step_rules::step::{Action, Answer};
 
 impl<N: BootName> Machine<N> {
     /// Tries to take a kept unit out of use. If the zone's reference is the only one, nobody can get the unit any more:
-    /// it is freed, and noted if `set_unit_notes` asked for that, and the result is its number of pages. Else the
+    /// it is freed, and noted if `set_detail_notes` asked for that, and the result is its number of pages. Else the
     /// result is None, a miss, and the unit stays kept. `head` is the unit's head.
     pub fn evict(&mut self, tables: &Tables<N>, head: Frame) -> Option<u32>
-        requires frame { head < N.frames.frames }
+        requires frame { head < N.table.frames }
         requires kept { HeadsKeptUnit self.old head }
-        requires held { IsHeld N.frames self.old.run.past }
+        requires held { IsHeld N.table self.old.run.past }
         ensures evicts { Evicts head result self.old self.new }
-        ensures visit { StaysVisited N.frames self.old self.new }
-        ensures steps { Makes N.frames self.old (evict_steps head result) self.new }
+        ensures visit { StaysVisited N.table self.old self.new }
+        ensures steps { Makes N.table self.old (evict_steps head result) self.new }
     {
         let frame = head.number();
         if !tables.words.freeze(&mut self.past, head, 1) {

@@ -16,7 +16,7 @@ use crate::machine::Machine;
 use crate::proving::prove_charges;
 use crate::stepping::make_step;
 use cpu_part::{BootName, Tables};
-use group_charge::settings::Settings;
+use group_charge::settings::ReclaimSettings;
 use group_tree::event::EventKey;
 use group_tree::fault::Fault;
 use group_tree::group::GroupId;
@@ -27,14 +27,14 @@ impl<N: BootName> Machine<N> {
     /// Notes an event of a group: one more in its events and its ancestors' events, and in its local events.
     pub fn note_event(&mut self, tables: &Tables<N>, key: NoteKey, group: GroupId)
         requires there { IsTrue (has_group self.old.ledger.groups group) }
-        requires held { IsHeld N.frames self.old.run.past }
+        requires held { IsHeld N.table self.old.run.past }
         ensures machine { self.new ≡ record self.old {
           ledger = with_noted (event_key key) self.old.ledger group;
           run = self.new.run;
         } }
         ensures usage { SameUsage self.old.ledger self.new.ledger }
-        ensures visit { StaysVisited N.frames self.old self.new }
-        ensures steps { Makes N.frames self.old (note_steps key group) self.new }
+        ensures visit { StaysVisited N.table self.old self.new }
+        ensures steps { Makes N.table self.old (note_steps key group) self.new }
     {
         self.charges.note(key.event(), group);
         make_step(tables, &mut self.past, &mut self.watch, || {
@@ -48,15 +48,15 @@ impl<N: BootName> Machine<N> {
     pub fn mark_killed(&mut self, tables: &Tables<N>, group: GroupId)
         requires there { IsTrue (has_group self.old.ledger.groups group) }
         requires alive { is_killed self.old.killed group ≡ false }
-        requires held { IsHeld N.frames self.old.run.past }
+        requires held { IsHeld N.table self.old.run.past }
         ensures machine { self.new ≡ record self.old {
           ledger = with_kill_noted self.old.ledger group;
           killed = slice_set self.old.killed group true;
           run = self.new.run;
         } }
         ensures usage { SameUsage self.old.ledger self.new.ledger }
-        ensures visit { StaysVisited N.frames self.old self.new }
-        ensures steps { Makes N.frames self.old (kill_steps group) self.new }
+        ensures visit { StaysVisited N.table self.old self.new }
+        ensures steps { Makes N.table self.old (kill_steps group) self.new }
     {
         self.charges.note(EventKey::OomKill, group);
         self.killed[group.number() as usize] = true;
@@ -70,14 +70,14 @@ impl<N: BootName> Machine<N> {
     pub fn note_group_kill(&mut self, tables: &Tables<N>, group: GroupId)
         requires there { IsTrue (has_group self.old.ledger.groups group) }
         requires below_root { group ≢ 0 }
-        requires held { IsHeld N.frames self.old.run.past }
+        requires held { IsHeld N.table self.old.run.past }
         ensures machine { self.new ≡ record self.old {
           ledger = with_group_kill_noted self.old.ledger group;
           run = self.new.run;
         } }
         ensures usage { SameUsage self.old.ledger self.new.ledger }
-        ensures visit { StaysVisited N.frames self.old self.new }
-        ensures steps { Makes N.frames self.old (note_group_kill_steps group) self.new }
+        ensures visit { StaysVisited N.table self.old self.new }
+        ensures steps { Makes N.table self.old (note_group_kill_steps group) self.new }
     {
         self.charges.note(EventKey::OomGroupKill, group);
         make_step(tables, &mut self.past, &mut self.watch, || {
@@ -87,12 +87,12 @@ impl<N: BootName> Machine<N> {
 
     /// Makes a group, as `Tree::make` does. It has no pages, peak 0 and all counts 0, and isn't killed.
     pub fn make(&mut self, tables: &Tables<N>, path: &[u8]) -> Result<GroupId, Fault>
-        requires held { IsHeld N.frames self.old.run.past }
+        requires held { IsHeld N.table self.old.run.past }
         ensures made { IfOk result (λ number. AddsGroup number path.now self.old self.new) }
         ensures refused { result_err result ≡ make_fault self.old.ledger.groups path.now }
         ensures unchanged { OnErr result (self.new ≡ self.old) }
-        ensures visit { StaysVisited N.frames self.old self.new }
-        ensures steps { IfOk result (λ number. Makes N.frames self.old (make_steps path.now number) self.new) }
+        ensures visit { StaysVisited N.table self.old self.new }
+        ensures steps { IfOk result (λ number. Makes N.table self.old (make_steps path.now number) self.new) }
     {
         prove_charges(&self.charges);
         let group = self.charges.make(path)?;
@@ -113,13 +113,13 @@ impl<N: BootName> Machine<N> {
         requires leaf { has_child self.old.ledger.groups group ≡ false }
         requires below_root { group ≢ 0 }
         requires empty { current_of self.old.ledger group ≡ 0 }
-        requires held { IsHeld N.frames self.old.run.past }
+        requires held { IsHeld N.table self.old.run.past }
         ensures machine { self.new ≡ record self.old {
           ledger = with_group_removed self.old.ledger group;
           run = self.new.run;
         } }
-        ensures visit { StaysVisited N.frames self.old self.new }
-        ensures steps { Makes N.frames self.old (remove_steps group) self.new }
+        ensures visit { StaysVisited N.table self.old self.new }
+        ensures steps { Makes N.table self.old (remove_steps group) self.new }
     {
         prove_charges(&self.charges);
         self.charges.remove(group);
@@ -132,13 +132,13 @@ impl<N: BootName> Machine<N> {
     pub fn set_max(&mut self, tables: &Tables<N>, group: GroupId, limit: Option<u32>)
         requires there { IsTrue (has_group self.old.ledger.groups group) }
         requires below_root { group ≢ 0 }
-        requires held { IsHeld N.frames self.old.run.past }
+        requires held { IsHeld N.table self.old.run.past }
         ensures machine { self.new ≡ record self.old {
           ledger = with_group_limit self.old.ledger group limit;
           run = self.new.run;
         } }
-        ensures visit { StaysVisited N.frames self.old self.new }
-        ensures steps { Makes N.frames self.old (set_max_steps group limit) self.new }
+        ensures visit { StaysVisited N.table self.old self.new }
+        ensures steps { Makes N.table self.old (set_max_steps group limit) self.new }
     {
         self.charges.set_max(group, limit);
         make_step(tables, &mut self.past, &mut self.watch, || {
@@ -150,13 +150,13 @@ impl<N: BootName> Machine<N> {
     pub fn set_oom_group(&mut self, tables: &Tables<N>, group: GroupId, oom_group: bool)
         requires there { IsTrue (has_group self.old.ledger.groups group) }
         requires below_root { group ≢ 0 }
-        requires held { IsHeld N.frames self.old.run.past }
+        requires held { IsHeld N.table self.old.run.past }
         ensures machine { self.new ≡ record self.old {
           ledger = with_oom_flag self.old.ledger group oom_group;
           run = self.new.run;
         } }
-        ensures visit { StaysVisited N.frames self.old self.new }
-        ensures steps { Makes N.frames self.old (set_oom_group_steps group oom_group) self.new }
+        ensures visit { StaysVisited N.table self.old self.new }
+        ensures steps { Makes N.table self.old (set_oom_group_steps group oom_group) self.new }
     {
         self.charges.set_oom_group(group, oom_group);
         make_step(tables, &mut self.past, &mut self.watch, || {
@@ -165,10 +165,10 @@ impl<N: BootName> Machine<N> {
     }
 
     /// Sets memory.high, memory.low and memory.min of a group. This is no step: no rule reads them.
-    pub fn set_settings(&mut self, group: GroupId, settings: Settings)
+    pub fn set_settings(&mut self, group: GroupId, settings: ReclaimSettings)
         ensures machine { self.new ≡ record self.old { ledger = with_settings self.old.ledger group settings } }
-        ensures visit { StaysVisited N.frames self.old self.new }
-        ensures steps { Makes N.frames self.old [] self.new }
+        ensures visit { StaysVisited N.table self.old self.new }
+        ensures steps { Makes N.table self.old [] self.new }
     {
         self.charges.set_settings(group, settings);
     }

@@ -12,6 +12,7 @@ ghost use Rattle.step_watch.specs.Watched.{Watches};
 
 use crate::frame_state::{FrameState, single_order};
 use crate::machine::Machine;
+use crate::passed::collect_passed;
 use crate::proving::prove_sizes;
 use cpu_part::{BootName, CpuLists, Tables};
 use frame_word::Frame;
@@ -30,10 +31,10 @@ fn watch_lent(watch: &mut Watch, cpu: u32, frame: u32)
 impl<N: BootName> Machine<N> {
     // Lends one free frame to the CPU, if there is one, at the end of its list.
     fn lend_one(&mut self, tables: &Tables<N>, cpu: &mut CpuLists<N>) -> bool
-        requires visit { Visits N.frames self.old cpu.old }
+        requires visit { Visits N.table self.old cpu.old }
         requires room { HasListRoom cpu.old 1 }
-        ensures lends { LendsIfFree N.frames result (visit_state self.old cpu.old) (visit_state self.new cpu.new) }
-        ensures visit { Visits N.frames self.new cpu.new }
+        ensures lends { LendsIfFree N.table result (visit_state self.old cpu.old) (visit_state self.new cpu.new) }
+        ensures visit { Visits N.table self.new cpu.new }
     {
         let cpu_number = cpu.number();
         prove_sizes(tables); // A CPU's number fits a byte.
@@ -53,12 +54,12 @@ impl<N: BootName> Machine<N> {
     /// Lends up to `batch` free frames to the visited CPU, one after the other, and returns how many it lent. They are
     /// added to the end of its list, which has room for them: listed and fresh frames are at most 256.
     pub fn refill(&mut self, tables: &Tables<N>, cpu: &mut CpuLists<N>, batch: u32) -> u32
-        requires visit { Visits N.frames self.old cpu.old }
+        requires visit { Visits N.table self.old cpu.old }
         requires room { HasListRoom cpu.old batch }
         ensures at_most { result ≤ batch }
-        ensures refills { Refills N.frames result (visit_state self.old cpu.old) (visit_state self.new cpu.new) }
+        ensures refills { Refills N.table result (visit_state self.old cpu.old) (visit_state self.new cpu.new) }
         ensures fewer_only_at_the_end { result < batch → HasNoneFrom self.new.blocks 0 }
-        ensures visit { Visits N.frames self.new cpu.new }
+        ensures visit { Visits N.table self.new cpu.new }
     {
         for lent in 0..batch {
             if !self.lend_one(tables, cpu) {
@@ -71,13 +72,13 @@ impl<N: BootName> Machine<N> {
     /// Lends this free frame to the visited CPU, at the end of its list. The list has room for it: listed and fresh
     /// frames are at most 256.
     pub fn lend(&mut self, tables: &Tables<N>, cpu: &mut CpuLists<N>, frame: Frame)
-        requires visit { Visits N.frames self.old cpu.old }
-        requires frame { frame < N.frames.frames }
+        requires visit { Visits N.table self.old cpu.old }
+        requires frame { frame < N.table.frames }
         requires free { frame_state_at self.old.frame_states frame ≡ Free }
         requires room { HasListRoom cpu.old 1 }
         ensures lends { LendsFrame frame (visit_state self.old cpu.old) (visit_state self.new cpu.new) }
-        ensures visit { Visits N.frames self.new cpu.new }
-        ensures steps { Makes N.frames self.old (lend_steps cpu.old.number frame) self.new }
+        ensures visit { Visits N.table self.new cpu.new }
+        ensures steps { Makes N.table self.old (lend_steps cpu.old.number frame) self.new }
     {
         let cpu_number = cpu.number();
         prove_sizes(tables); // A CPU's number fits a byte.
@@ -90,30 +91,16 @@ impl<N: BootName> Machine<N> {
 
     // Frees the front of the CPU's list, if there is one.
     fn unlist_one(&mut self, tables: &Tables<N>, cpu: &mut CpuLists<N>) -> bool
-        requires { Visits N.frames self.old cpu.old }
-        ensures takes { UnlistsIfListed N.frames result (visit_state self.old cpu.old) (visit_state self.new cpu.new) }
-        ensures visit { Visits N.frames self.new cpu.new }
+        requires { Visits N.table self.old cpu.old }
+        ensures takes { UnlistsIfListed N.table result (visit_state self.old cpu.old) (visit_state self.new cpu.new) }
+        ensures visit { Visits N.table self.new cpu.new }
     {
         let cpu_number = cpu.number();
         let Some(frame) = cpu.pass_front(tables, &mut self.past) else {
             return false;
         };
+        collect_passed(tables, &mut self.past, &mut self.watch, cpu_number, frame);
         let at = frame.number();
-        self.watch.take(
-            cpu_number,
-            || (Action::PassBack { frame: at }, Answer::Done),
-        );
-        tables.words.collect(&mut self.past, cpu_number, frame);
-        self.watch.take(
-            0,
-            || (
-                Action::Collect {
-                    frame: at,
-                    cpu: cpu_number,
-                },
-                Answer::Done,
-            ),
-        );
         self.frame_states[at as usize] = FrameState::Free;
         self.zone.give(Block {
             at,
@@ -125,14 +112,14 @@ impl<N: BootName> Machine<N> {
     /// Returns up to `count` frames from the front of the visited CPU's list to the zone, one after the other, and
     /// reports how many. They are free again.
     pub fn drain_list(&mut self, tables: &Tables<N>, cpu: &mut CpuLists<N>, count: u32) -> u32
-        requires { Visits N.frames self.old cpu.old }
+        requires { Visits N.table self.old cpu.old }
         ensures at_most { result ≤ count }
         ensures listed { result ≤ length cpu.old.list }
         ensures takes { UnlistsMany (take result cpu.old.list) (visit_state self.old cpu.old)
             (visit_state self.new cpu.new) }
         ensures fewer_only_at_the_end { result < count → cpu.new.list ≡ [] }
-        ensures visit { Visits N.frames self.new cpu.new }
-        ensures steps { Makes N.frames self.old (unlist_front_steps result (visit_state self.old cpu.old)) self.new }
+        ensures visit { Visits N.table self.new cpu.new }
+        ensures steps { Makes N.table self.old (unlist_front_steps result (visit_state self.old cpu.old)) self.new }
     {
         for taken in 0..count {
             if !self.unlist_one(tables, cpu) {

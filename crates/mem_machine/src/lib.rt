@@ -18,7 +18,7 @@
 //! - `local_of` is what the lock's holder sees, in the words of the rules. `Makes` says that a list of steps leads from
 //!   one machine to another.
 //! - Each of these steps is legal where it is made, and the pasts grow by it. The watch takes it right after, if it is
-//!   on. `Notes`, a part of `Makes`, says so.
+//!   on. `Records`, a part of `Makes`, says so.
 //!
 //! A call of a function `prove_..`, or of `list_laws`, does nothing: a proof needs its contract.
 #![tactic(auto)]
@@ -40,8 +40,10 @@ mod machine;
 mod marks;
 mod noting;
 mod owners;
+mod passed;
 mod paying;
 mod proving;
+mod publishing;
 mod readers;
 mod releasing;
 mod settling;

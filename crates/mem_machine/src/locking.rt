@@ -15,44 +15,44 @@ use cpu_part::{BootName, CpuLists, Tables};
 impl<N: BootName> Machine<N> {
     /// The CPU takes the lock, which is free. Its past, which it gives away, is the machine's until `unlock`. The
     /// caller holds the mutex that keeps other CPUs out meanwhile.
-    pub fn lock(&mut self, tables: &Tables<N>, cpu: &CpuLists<N>, past: &mut CpuSeat)
-        requires rests { Rests N.frames self.old }
-        requires knows { KnowsItsPart N.frames past.old cpu.now }
+    pub fn lock(&mut self, tables: &Tables<N>, cpu: &CpuLists<N>, seat: &mut CpuSeat)
+        requires rests { Rests N.table self.old }
+        requires knows { KnowsItsPart N.table seat.old cpu.now }
         ensures machine { self.new ≡ with_past self.old self.new.run.past }
-        ensures holds { Holds N.frames self.new cpu.now }
-        ensures shut { IsShut N.frames self.new cpu.now.number }
-        ensures given { past.new ≡ record past.old { seat = record { table = N.frames.table; pasts = [] } } }
-        ensures run { Locks N.frames self.old.run.past past.old.seat self.new.run.past }
+        ensures holds { Holds N.table self.new cpu.now }
+        ensures shut { IsShut N.table self.new cpu.now.number }
+        ensures given { seat.new ≡ record seat.old { past = record { table = N.table.table; pasts = [] } } }
+        ensures run { Locks N.table self.old.run.past seat.old.past self.new.run.past }
     {
-        tables.words.lock(&mut self.past, past);
+        tables.words.lock(&mut self.past, seat);
     }
 
     /// The CPU releases the lock, and has its own past again. Its visit is shut, and it knows its own part as the
     /// machine's calls left it, and its stock.
-    pub fn unlock(&mut self, tables: &Tables<N>, cpu: &CpuLists<N>, past: &mut CpuSeat)
-        requires holds { Holds N.frames self.old cpu.now }
-        requires shut { IsShut N.frames self.old cpu.now.number }
-        requires number { past.old.number ≡ cpu.now.number }
+    pub fn unlock(&mut self, tables: &Tables<N>, cpu: &CpuLists<N>, seat: &mut CpuSeat)
+        requires holds { Holds N.table self.old cpu.now }
+        requires shut { IsShut N.table self.old cpu.now.number }
+        requires number { seat.old.number ≡ cpu.now.number }
         ensures machine { self.new ≡ with_past self.old self.new.run.past }
-        ensures rests { Rests N.frames self.new }
-        ensures knows { KnowsItsPart N.frames past.new cpu.now }
-        ensures last { past.new.last ≡ stock_left N.frames self.new cpu.now.number }
-        ensures run { Unlocks N.frames self.old.run.past self.new.run.past past.new.seat }
+        ensures rests { Rests N.table self.new }
+        ensures knows { KnowsItsPart N.table seat.new cpu.now }
+        ensures last { seat.new.last ≡ stock_left N.table self.new cpu.now.number }
+        ensures run { Unlocks N.table self.old.run.past self.new.run.past seat.new.past }
     {
-        tables.words.unlock(&mut self.past, past);
+        tables.words.unlock(&mut self.past, seat);
     }
 
     /// The CPU, which doesn't hold the lock, and the zone, whose lock is free, now see the same run: all that either
     /// saw. The machine rests as before, and the CPU still knows its own part.
-    pub fn meet(&mut self, tables: &Tables<N>, cpu: &CpuLists<N>, past: &mut CpuSeat)
-        requires rests { Rests N.frames self.old }
-        requires knows { KnowsItsPart N.frames past.old cpu.now }
+    pub fn meet(&mut self, tables: &Tables<N>, cpu: &CpuLists<N>, seat: &mut CpuSeat)
+        requires rests { Rests N.table self.old }
+        requires knows { KnowsItsPart N.table seat.old cpu.now }
         ensures machine { self.new ≡ with_past self.old self.new.run.past }
-        ensures rests { Rests N.frames self.new }
-        ensures knows { KnowsItsPart N.frames past.new cpu.now }
-        ensures last { past.new.last ≡ past.old.last }
-        ensures meets { Meets N.frames self.old.run.past past.old.seat self.new.run.past past.new.seat }
+        ensures rests { Rests N.table self.new }
+        ensures knows { KnowsItsPart N.table seat.new cpu.now }
+        ensures last { seat.new.last ≡ seat.old.last }
+        ensures meets { Meets N.table self.old.run.past seat.old.past self.new.run.past seat.new.past }
     {
-        tables.words.meet(&mut self.past, past);
+        tables.words.meet(&mut self.past, seat);
     }
 }

@@ -65,7 +65,7 @@ impl<N: BootName> Model for Machine<N> {
 
     ghost view = { machine_of };
 
-    ghost invariant = { λ fields. IsSoundMachine N.frames fields };
+    ghost invariant = { λ fields. IsSoundMachine N.table fields };
 }
 
 impl<N: BootName> Machine<N> {
@@ -73,10 +73,10 @@ impl<N: BootName> Machine<N> {
     /// the root exists. The watch is off. This call reserves all memory that later calls need; it returns `AllocError`
     /// if memory runs out.
     pub fn new(alloc: Global, tables: &Tables<N>, past: PastSeat) -> Result<Machine<N>, AllocError>
-        requires past { past ≡ seat_at_first N.frames.table 0 }
-        ensures first { IfOk result (λ machine. IsFirst N.frames machine) }
+        requires past { past ≡ seat_at_first N.table.table 0 }
+        ensures first { IfOk result (λ machine. IsFirst N.table machine) }
         ensures off { IfOk result (λ machine. machine.run.watch ≡ watch_off) }
-        ensures rests { IfOk result (λ machine. Rests N.frames machine) }
+        ensures rests { IfOk result (λ machine. Rests N.table machine) }
     {
         prove_sizes(tables); // There are at most 64 CPUs.
         let parts = match new_parts(alloc, tables.words.frames()) {
@@ -112,7 +112,7 @@ impl<N: BootName> Machine<N> {
     /// Takes the machine apart, so that the table can end: returns the zone's seat.
     pub fn into_past(self) -> PastSeat
         ensures past { result ≡ self.run.past }
-        ensures consistent { IsConsistent N.frames self }
+        ensures consistent { IsConsistent N.table self }
     {
         let Machine {
             zone,

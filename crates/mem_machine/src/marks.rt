@@ -16,10 +16,10 @@ impl<N: BootName> Machine<N> {
     /// Notes that a kept unit was used. An inactive unit that isn't marked is marked. Any other unit moves, unmarked,
     /// to the newest end of its group's active list. `head` is the unit's head.
     pub fn touch(&mut self, head: Frame) -> Touched
-        requires frame { head < N.frames.frames }
+        requires frame { head < N.table.frames }
         requires kept { HeadsKeptUnit self.old head }
         ensures touches { TouchesUnit head result self.old self.new }
-        ensures steps { Makes N.frames self.old [] self.new }
+        ensures steps { Makes N.table self.old [] self.new }
     {
         let at = head.number();
         let Some(home) = self.links.home(at) else {
@@ -35,10 +35,10 @@ impl<N: BootName> Machine<N> {
 
     /// Notes whether the pages of a kept unit are dirty. `head` is the unit's head.
     pub fn set_dirty(&mut self, head: Frame, is_dirty: bool)
-        requires frame { head < N.frames.frames }
+        requires frame { head < N.table.frames }
         requires kept { HeadsKeptUnit self.old head }
         ensures dirties { Dirties head is_dirty self.old self.new }
-        ensures steps { Makes N.frames self.old [] self.new }
+        ensures steps { Makes N.table self.old [] self.new }
     {
         let at = head.number();
         let Some(home) = self.links.home(at) else {

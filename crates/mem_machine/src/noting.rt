@@ -1,7 +1,7 @@
 //! Notes of what was tried and reclaimed, for explanations.
 
 ghost use Rattle.std.specs.Prelude.{◌≡◌};
-ghost use Rattle.mem_machine.specs.Machines.{with_detail, with_note, with_unit_notes, without_notes};
+ghost use Rattle.mem_machine.specs.Machines.{with_detail, with_note, with_detail_notes, without_notes};
 
 use crate::machine::Machine;
 use cpu_part::BootName;
@@ -25,10 +25,10 @@ impl<N: BootName> Machine<N> {
     }
 
     /// Notes details from now on, or no longer. Nothing else changes, and no step is made.
-    pub fn set_unit_notes(&mut self, is_on: bool)
-        ensures { self.new ≡ with_unit_notes self.old is_on }
+    pub fn set_detail_notes(&mut self, is_on: bool)
+        ensures { self.new ≡ with_detail_notes self.old is_on }
     {
-        self.notes.set_unit_notes(is_on);
+        self.notes.set_detail_notes(is_on);
     }
 
     /// Adds a note. Nothing else changes, and no step is made.
@@ -38,7 +38,7 @@ impl<N: BootName> Machine<N> {
         self.notes.note(note);
     }
 
-    /// Adds a detail, if `set_unit_notes` asked for details and there is room for one more. Nothing else changes, and no
+    /// Adds a detail, if `set_detail_notes` asked for details and there is room for one more. Nothing else changes, and no
     /// step is made.
     pub fn note_detail(&mut self, note: Note)
         ensures { self.new ≡ with_detail self.old note }

@@ -16,8 +16,8 @@ use zone_blocks::order::Order;
 /// Shows that there are at most 64 CPUs, and fewer than 2^32 frames.
 #[inline(always)]
 pub fn prove_sizes<N: BootName>(tables: &Tables<N>)
-    ensures frames { N.frames.frames < 2 ^ 32 }
-    ensures few { N.frames.cpus ≤ 64 }
+    ensures frames { N.table.frames < 2 ^ 32 }
+    ensures few { N.table.cpus ≤ 64 }
 {
     let _frames = tables.words.frames();
     let _cpus = tables.words.cpus();
@@ -63,7 +63,7 @@ impl<N: BootName> Machine<N> {
     /// Shows that the machine is consistent.
     #[inline(always)]
     pub fn prove_consistent(&self)
-        ensures { IsConsistent N.frames self.now }
+        ensures { IsConsistent N.table self.now }
     {
         let _ = &self.past;
     }

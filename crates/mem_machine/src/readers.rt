@@ -20,9 +20,9 @@ use zone_blocks::walk::Walk;
 impl<N: BootName> Machine<N> {
     /// The place of the frame: free, lent to a CPU, or charged to a group.
     pub fn place(&self, frame: Frame) -> Place
-        requires { frame < N.frames.frames }
+        requires { frame < N.table.frames }
         ensures place { result ≡ place_of (frame_state_at self.now.frame_states frame) }
-        ensures consistent { IsConsistent N.frames self.now }
+        ensures consistent { IsConsistent N.table self.now }
     {
         self.frame_states[frame.number() as usize].place()
     }
@@ -30,7 +30,7 @@ impl<N: BootName> Machine<N> {
     /// The records of all frames, by their numbers.
     pub fn frame_states(&self) -> &[FrameState]
         ensures frame_states { result.now ≡ self.now.frame_states }
-        ensures consistent { IsConsistent N.frames self.now }
+        ensures consistent { IsConsistent N.table self.now }
     {
         self.frame_states.as_slice()
     }
@@ -45,7 +45,7 @@ impl<N: BootName> Machine<N> {
 
     /// The unit that the frame heads; None exactly if it heads none.
     pub fn unit(&self, frame: Frame) -> Option<ChargedUnit>
-        requires { frame < N.frames.frames }
+        requires { frame < N.table.frames }
         ensures { result ≡ headed_unit (frame_state_at self.now.frame_states frame) }
     {
         match self.frame_states[frame.number() as usize] {
@@ -56,7 +56,7 @@ impl<N: BootName> Machine<N> {
 
     /// Whether the frame heads a kept unit, which is on a list of its group.
     pub fn is_kept(&self, frame: Frame) -> bool
-        requires { frame < N.frames.frames }
+        requires { frame < N.table.frames }
         ensures { IsTrue result ↔ HeadsKeptUnit self.now frame }
     {
         self.links.home(frame.number()).is_some()

@@ -29,12 +29,12 @@ impl<N: BootName> Machine<N> {
     /// Removes a kept unit from its list, and puts the zone's reference on it. If that was the last reference, the unit
     /// is freed. `head` is the unit's head. The call may be made in any CPU's visit.
     pub fn put_zone_reference(&mut self, tables: &Tables<N>, head: Frame) -> Released
-        requires frame { head < N.frames.frames }
+        requires frame { head < N.table.frames }
         requires kept { HeadsKeptUnit self.old head }
-        requires held { IsHeld N.frames self.old.run.past }
+        requires held { IsHeld N.table self.old.run.past }
         ensures releases { Releases head result self.old self.new }
-        ensures visit { StaysVisited N.frames self.old self.new }
-        ensures steps { Makes N.frames self.old (release_steps head result) self.new }
+        ensures visit { StaysVisited N.table self.old self.new }
+        ensures steps { Makes N.table self.old (release_steps head result) self.new }
     {
         let at = head.number();
         leave_list(&mut self.links, &mut self.lists, at);
@@ -69,12 +69,12 @@ impl<N: BootName> Machine<N> {
 
     /// Releases a kept unit as `put_zone_reference` does, in the visit of this CPU.
     pub fn release(&mut self, tables: &Tables<N>, cpu: &CpuLists<N>, head: Frame) -> Released
-        requires visit { Visits N.frames self.old cpu.now }
-        requires frame { head < N.frames.frames }
+        requires visit { Visits N.table self.old cpu.now }
+        requires frame { head < N.table.frames }
         requires kept { HeadsKeptUnit self.old head }
         ensures releases { Releases head result self.old self.new }
-        ensures visit { Visits N.frames self.new cpu.now }
-        ensures steps { Makes N.frames self.old (release_steps head result) self.new }
+        ensures visit { Visits N.table self.new cpu.now }
+        ensures steps { Makes N.table self.old (release_steps head result) self.new }
     {
         self.put_zone_reference(tables, head)
     }

@@ -5,7 +5,7 @@ ghost use Rattle.std.specs.List.{slice_index_or};
 ghost use Rattle.boot_words.specs.{AreLegal, local_by_pasts, IsHeld, IsHolder};
 ghost use Rattle.mem_machine.specs.Machines.{is_killed, stock_group};
 ghost use Rattle.mem_machine.specs.Local.{Makes, Visits, visit_state};
-ghost use Rattle.mem_machine.specs.Noted.{Notes};
+ghost use Rattle.mem_machine.specs.Noted.{Records};
 ghost use Rattle.mem_machine.specs.Settling.{HandsOver, KeepsFresh, DropsFresh, SettlesNext, SettlesAllFresh, Settles};
 ghost use Rattle.mem_machine.specs.Settling.{ReturnsNext, ReturnsAllBack, LeavesOthers};
 ghost use Rattle.mem_machine.specs.Settling.{MakesFreshSteps, MakesReturnSteps, keep_steps, drop_steps};
@@ -16,6 +16,8 @@ use crate::frame_state::{FrameState, single_order};
 use crate::freed::free_unit;
 use crate::lists::join_list;
 use crate::machine::Machine;
+use crate::passed::collect_passed;
+use crate::publishing::publish;
 use crate::stepping::make_step;
 use boot_words::PastSeat;
 use cpu_part::{BootName, CpuLists, Tables};
@@ -45,17 +47,17 @@ fn collect_fresh<N: BootName>(
     sums: &mut [u32; MAX_GROUPS],
     group: GroupId,
 ) -> Frame
-    requires held { IsHeld N.frames past.old }
+    requires held { IsHeld N.table past.old }
     requires holder { IsHolder past.old cpu.old.number }
-    requires absorbed { ((local_by_pasts N.frames past.old).parts cpu.old.number).reported ≡ 0 }
+    requires absorbed { ((local_by_pasts N.table past.old).parts cpu.old.number).reported ≡ 0 }
     requires legal { (f : ℕ) (rest : List ℕ) → cpu.old.fresh ≡ f ∷ rest
-        → AreLegal (local_by_pasts N.frames past.old) (collect_steps cpu.old.number f) }
+        → AreLegal (local_by_pasts N.table past.old) (collect_steps cpu.old.number f) }
     requires fresh { cpu.old.fresh ≢ [] }
     requires booked { 1 ≤ slice_index_or sums.old group 0 }
     ensures cpu { HandsOver result cpu.old cpu.new }
     ensures sums { sums.new ≡ slice_set sums.old group (slice_index_or sums.old group 0 - 1) }
-    ensures held { IsHeld N.frames past.new }
-    ensures notes { Notes N.frames (record { past = past.old; watch = watch.old })
+    ensures held { IsHeld N.table past.new }
+    ensures notes { Records N.table (record { past = past.old; watch = watch.old })
         (collect_steps cpu.old.number result) (record { past = past.new; watch = watch.new }) }
 {
     let cpu_number = cpu.number();
@@ -71,12 +73,12 @@ fn collect_fresh<N: BootName>(
 impl<N: BootName> Machine<N> {
     // Keeps the oldest fresh frame for the group that paid for it.
     fn keep_one(&mut self, tables: &Tables<N>, cpu: &mut CpuLists<N>, group: GroupId) -> Frame
-        requires visit { Visits N.frames self.old cpu.old }
+        requires visit { Visits N.table self.old cpu.old }
         requires fresh { cpu.old.fresh ≢ [] }
-        requires group { stock_group N.frames self.old cpu.old.number ≡ Some group }
+        requires group { stock_group N.table self.old cpu.old.number ≡ Some group }
         ensures keeps { KeepsFresh group result (visit_state self.old cpu.old) (visit_state self.new cpu.new) }
-        ensures visit { Visits N.frames self.new cpu.new }
-        ensures steps { Makes N.frames self.old (keep_steps cpu.old.number result) self.new }
+        ensures visit { Visits N.table self.new cpu.new }
+        ensures steps { Makes N.table self.old (keep_steps cpu.old.number result) self.new }
     {
         let head = collect_fresh(
             tables,
@@ -87,27 +89,22 @@ impl<N: BootName> Machine<N> {
             group,
         );
         let frame = head.number();
-        tables.words.unfreeze(&mut self.past, head, 1);
-        self.watch
-            .take(0, || (Action::Unfreeze { frame, count: 1 }, Answer::Done));
         let order = single_order();
         self.frame_states[frame as usize] = FrameState::Head(ChargedUnit { group, order });
         join_list(&mut self.links, &mut self.lists, group, frame);
-        make_step(tables, &mut self.past, &mut self.watch, || {
-            (Action::Publish { frame }, Answer::Done)
-        });
+        publish(tables, &mut self.past, &mut self.watch, head);
         head
     }
 
     // Frees the oldest fresh frame, whose group is killed, and uncharges its page from the group.
     fn drop_one(&mut self, tables: &Tables<N>, cpu: &mut CpuLists<N>, group: GroupId) -> Frame
-        requires visit { Visits N.frames self.old cpu.old }
+        requires visit { Visits N.table self.old cpu.old }
         requires fresh { cpu.old.fresh ≢ [] }
-        requires group { stock_group N.frames self.old cpu.old.number ≡ Some group }
+        requires group { stock_group N.table self.old cpu.old.number ≡ Some group }
         requires killed { is_killed self.old.killed group ≡ true }
         ensures drops { DropsFresh group result (visit_state self.old cpu.old) (visit_state self.new cpu.new) }
-        ensures visit { Visits N.frames self.new cpu.new }
-        ensures steps { Makes N.frames self.old (drop_steps cpu.old.number result) self.new }
+        ensures visit { Visits N.table self.new cpu.new }
+        ensures steps { Makes N.table self.old (drop_steps cpu.old.number result) self.new }
     {
         let frame = collect_fresh(
             tables,
@@ -136,31 +133,17 @@ impl<N: BootName> Machine<N> {
 
     // Takes the oldest back frame, if there is one, into the zone's hand, and frees its unit.
     fn return_one(&mut self, tables: &Tables<N>, cpu: &mut CpuLists<N>) -> Option<Frame>
-        requires { Visits N.frames self.old cpu.old }
+        requires { Visits N.table self.old cpu.old }
         ensures returns { ReturnsNext result (visit_state self.old cpu.old) (visit_state self.new cpu.new) }
-        ensures visit { Visits N.frames self.new cpu.new }
-        ensures steps { MakesReturnSteps N.frames result (visit_state self.old cpu.old) (visit_state self.new cpu.new) }
+        ensures visit { Visits N.table self.new cpu.new }
+        ensures steps { MakesReturnSteps N.table result (visit_state self.old cpu.old) (visit_state self.new cpu.new) }
     {
         let cpu_number = cpu.number();
         let Some(frame) = cpu.pass_back_unit(tables, &mut self.past) else {
             return None;
         };
+        collect_passed(tables, &mut self.past, &mut self.watch, cpu_number, frame);
         let at = frame.number();
-        self.watch.take(
-            cpu_number,
-            || (Action::PassBack { frame: at }, Answer::Done),
-        );
-        tables.words.collect(&mut self.past, cpu_number, frame);
-        self.watch.take(
-            0,
-            || (
-                Action::Collect {
-                    frame: at,
-                    cpu: cpu_number,
-                },
-                Answer::Done,
-            ),
-        );
         let FrameState::Head(unit) = self.frame_states[at as usize] else {
             unreachable!()
         };
@@ -180,10 +163,10 @@ impl<N: BootName> Machine<N> {
 
     // Settles the oldest fresh frame, if there is one: it is kept for its group, or dropped if that group is killed.
     fn settle_one(&mut self, tables: &Tables<N>, cpu: &mut CpuLists<N>) -> Option<Frame>
-        requires { Visits N.frames self.old cpu.old }
-        ensures settles { SettlesNext N.frames result (visit_state self.old cpu.old) (visit_state self.new cpu.new) }
-        ensures visit { Visits N.frames self.new cpu.new }
-        ensures steps { MakesFreshSteps N.frames result (visit_state self.old cpu.old) (visit_state self.new cpu.new) }
+        requires { Visits N.table self.old cpu.old }
+        ensures settles { SettlesNext N.table result (visit_state self.old cpu.old) (visit_state self.new cpu.new) }
+        ensures visit { Visits N.table self.new cpu.new }
+        ensures steps { MakesFreshSteps N.table result (visit_state self.old cpu.old) (visit_state self.new cpu.new) }
     {
         if cpu.fresh_len() == 0 {
             return None;
@@ -200,27 +183,27 @@ impl<N: BootName> Machine<N> {
 
     // Settles all fresh frames, in the order in which they were taken.
     fn settle_fresh(&mut self, tables: &Tables<N>, cpu: &mut CpuLists<N>)
-        requires { Visits N.frames self.old cpu.old }
-        ensures settles { SettlesAllFresh N.frames cpu.old.fresh (visit_state self.old cpu.old)
+        requires { Visits N.table self.old cpu.old }
+        ensures settles { SettlesAllFresh N.table cpu.old.fresh (visit_state self.old cpu.old)
             (visit_state self.new cpu.new) }
         ensures others { LeavesOthers cpu.old cpu.new }
         ensures back { cpu.new.back ≡ cpu.old.back }
         ensures none_fresh { cpu.new.fresh ≡ [] }
-        ensures visit { Visits N.frames self.new cpu.new }
-        ensures steps { Makes N.frames self.old (all_fresh_steps N.frames (visit_state self.old cpu.old)) self.new }
+        ensures visit { Visits N.table self.new cpu.new }
+        ensures steps { Makes N.table self.old (all_fresh_steps N.table (visit_state self.old cpu.old)) self.new }
     {
         while let Some(_frame) = self.settle_one(tables, cpu) {}
     }
 
     // Frees the units of all back frames, in the order of their last puts.
     fn settle_back(&mut self, tables: &Tables<N>, cpu: &mut CpuLists<N>)
-        requires { Visits N.frames self.old cpu.old }
+        requires { Visits N.table self.old cpu.old }
         ensures returns { ReturnsAllBack cpu.old.back (visit_state self.old cpu.old) (visit_state self.new cpu.new) }
         ensures others { LeavesOthers cpu.old cpu.new }
         ensures fresh { cpu.new.fresh ≡ cpu.old.fresh }
         ensures none_back { cpu.new.back ≡ [] }
-        ensures visit { Visits N.frames self.new cpu.new }
-        ensures steps { Makes N.frames self.old (return_all_steps (visit_state self.old cpu.old)) self.new }
+        ensures visit { Visits N.table self.new cpu.new }
+        ensures steps { Makes N.table self.old (return_all_steps (visit_state self.old cpu.old)) self.new }
     {
         while let Some(_frame) = self.return_one(tables, cpu) {}
     }
@@ -229,13 +212,13 @@ impl<N: BootName> Machine<N> {
     /// group that paid for it. If that group has been killed, the frame is freed and its page uncharged, which counts
     /// as a drop. Then the units of the back frames are freed, in the order of their last puts.
     pub fn settle(&mut self, tables: &Tables<N>, cpu: &mut CpuLists<N>)
-        requires { Visits N.frames self.old cpu.old }
-        ensures settles { Settles N.frames (visit_state self.old cpu.old) (visit_state self.new cpu.new) }
+        requires { Visits N.table self.old cpu.old }
+        ensures settles { Settles N.table (visit_state self.old cpu.old) (visit_state self.new cpu.new) }
         ensures others { LeavesOthers cpu.old cpu.new }
         ensures none_fresh { cpu.new.fresh ≡ [] }
         ensures none_back { cpu.new.back ≡ [] }
-        ensures visit { Visits N.frames self.new cpu.new }
-        ensures steps { Makes N.frames self.old (settle_steps N.frames (visit_state self.old cpu.old)) self.new }
+        ensures visit { Visits N.table self.new cpu.new }
+        ensures steps { Makes N.table self.old (settle_steps N.table (visit_state self.old cpu.old)) self.new }
     {
         self.settle_fresh(tables, cpu);
         self.settle_back(tables, cpu);

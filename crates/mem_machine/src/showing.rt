@@ -1,7 +1,7 @@
 //! What the machine shows of a group's kept units.
 
 ghost use Rattle.std.specs.Prelude.{◌≡◌, ◌+◌, ◌<◌};
-ghost use Rattle.frame_word.specs.ReferenceRule.{most_references};
+ghost use Rattle.step_rules.specs.State.{most_references};
 ghost use Rattle.boot_words.specs.{own_past, zone_of_boot, LoadsReferences};
 ghost use Rattle.mem_machine.specs.Machines.{HeadsKeptUnit, entries_in};
 ghost use Rattle.mem_machine.specs.Resting.{Rests};
@@ -25,10 +25,10 @@ impl<N: BootName> Machine<N> {
     /// moment of that load. CPUs may pin and unpin the unit before and after it. Nothing changes, and no step is made.
     /// `head` is the unit's head.
     pub fn pins_on(&mut self, tables: &Tables<N>, head: Frame) -> u32
-        requires rests { Rests N.frames self.old }
-        requires frame { head < N.frames.frames }
+        requires rests { Rests N.table self.old }
+        requires frame { head < N.table.frames }
         requires kept { HeadsKeptUnit self.old head }
-        ensures pins { LoadsReferences (zone_of_boot N.frames) (own_past self.old.run.past) head (result + 1) }
+        ensures pins { LoadsReferences (zone_of_boot N.table) (own_past self.old.run.past) head (result + 1) }
         ensures most { result < most_references }
         ensures machine { self.new ≡ self.old }
     {

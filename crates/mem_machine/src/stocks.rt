@@ -27,11 +27,11 @@ impl<N: BootName> Machine<N> {
     /// Drains the stock of any CPU of the boot, and returns how many pages were in it. They are no longer booked to
     /// the stock, nor charged to its group. That CPU may go on with its own calls meanwhile.
     pub fn drain_stock(&mut self, tables: &Tables<N>, cpu: u32) -> u32
-        requires cpu { IsCpuOf N.frames cpu }
-        requires held { IsHeld N.frames self.old.run.past }
-        ensures drains { Drains N.frames cpu result self.old self.new }
-        ensures steps { Makes N.frames self.old (drain_steps cpu (stock_group N.frames self.old cpu) result) self.new }
-        ensures visit { StaysVisited N.frames self.old self.new }
+        requires cpu { IsCpuOf N.table cpu }
+        requires held { IsHeld N.table self.old.run.past }
+        ensures drains { Drains N.table cpu result self.old self.new }
+        ensures steps { Makes N.table self.old (drain_steps cpu (stock_group N.table self.old cpu) result) self.new }
+        ensures visit { StaysVisited N.table self.old self.new }
     {
         prove_charges(&self.charges);
         let pages = tables.words.drain(&mut self.past, cpu);
@@ -54,11 +54,11 @@ impl<N: BootName> Machine<N> {
 
     // Drains the stock of the CPU, notes the drain, and returns how many pages were in it.
     fn drain_noted(&mut self, tables: &Tables<N>, cpu: u32) -> u32
-        requires cpu { IsCpuOf N.frames cpu }
-        requires held { IsHeld N.frames self.old.run.past }
-        ensures drains { DrainsNoted N.frames cpu result self.old self.new }
-        ensures steps { Makes N.frames self.old (drain_steps cpu (stock_group N.frames self.old cpu) result) self.new }
-        ensures visit { StaysVisited N.frames self.old self.new }
+        requires cpu { IsCpuOf N.table cpu }
+        requires held { IsHeld N.table self.old.run.past }
+        ensures drains { DrainsNoted N.table cpu result self.old self.new }
+        ensures steps { Makes N.table self.old (drain_steps cpu (stock_group N.table self.old cpu) result) self.new }
+        ensures visit { StaysVisited N.table self.old self.new }
     {
         let pages = self.drain_stock(tables, cpu);
         self.notes.note(Note::Stock { cpu, pages });
@@ -68,7 +68,7 @@ impl<N: BootName> Machine<N> {
     // The stocks of groups in the subtree of `group`.
     fn stocks_below(&self, group: GroupId) -> u64
         requires there { IsTrue (has_group self.now.ledger.groups group) }
-        ensures { AreChosen N.frames (of_subtree group) self.now result }
+        ensures { AreChosen N.table (of_subtree group) self.now result }
     {
         let tree = self.charges.tree();
         let mut stocks = 0;
@@ -82,13 +82,13 @@ impl<N: BootName> Machine<N> {
 
     // Drains and notes these stocks, by ascending CPU, and returns how many pages were in them.
     fn drain_each(&mut self, tables: &Tables<N>, stocks: u64) -> u64
-        requires chosen { AreChosenBySome N.frames self.old stocks }
-        requires held { IsHeld N.frames self.old.run.past }
-        ensures drains { (test : StockTest) → AreChosen N.frames test self.old stocks
-            → DrainsBySteps N.frames (DrainsAllIf N.frames test N.frames.cpus) result self.old self.new }
-        ensures drained { (test : StockTest) → AreChosen N.frames test self.old stocks
-            → AreDrainedIf N.frames test N.frames.cpus self.new }
-        ensures visit { StaysVisited N.frames self.old self.new }
+        requires chosen { AreChosenBySome N.table self.old stocks }
+        requires held { IsHeld N.table self.old.run.past }
+        ensures drains { (test : StockTest) → AreChosen N.table test self.old stocks
+            → DrainsBySteps N.table (DrainsAllIf N.table test N.table.cpus) result self.old self.new }
+        ensures drained { (test : StockTest) → AreChosen N.table test self.old stocks
+            → AreDrainedIf N.table test N.table.cpus self.new }
+        ensures visit { StaysVisited N.table self.old self.new }
     {
         prove_sizes(tables); // At most 64 stocks have at most 65,535 pages each.
         let mut rest = stocks;
@@ -104,10 +104,10 @@ impl<N: BootName> Machine<N> {
     /// stock is looked at.
     pub fn drain_stocks(&mut self, tables: &Tables<N>, group: GroupId) -> u64
         requires there { IsTrue (has_group self.old.ledger.groups group) }
-        requires held { IsHeld N.frames self.old.run.past }
-        ensures drains { DrainsSubtree N.frames group result self.old self.new }
-        ensures drained { AreDrained N.frames group self.new }
-        ensures visit { StaysVisited N.frames self.old self.new }
+        requires held { IsHeld N.table self.old.run.past }
+        ensures drains { DrainsSubtree N.table group result self.old self.new }
+        ensures drained { AreDrained N.table group self.new }
+        ensures visit { StaysVisited N.table self.old self.new }
     {
         let stocks = self.stocks_below(group);
         self.drain_each(tables, stocks)
@@ -116,10 +116,10 @@ impl<N: BootName> Machine<N> {
     /// Drains all stocks of the group itself, empty ones included, and returns how many pages were in them. They are
     /// no longer booked to the stocks, nor charged to the group, and each drain is noted. No other stock is looked at.
     pub fn drain_group_stocks(&mut self, tables: &Tables<N>, group: GroupId) -> u64
-        requires held { IsHeld N.frames self.old.run.past }
-        ensures drains { DrainsGroup N.frames group result self.old self.new }
-        ensures drained { AreOwnDrained N.frames group self.new }
-        ensures visit { StaysVisited N.frames self.old self.new }
+        requires held { IsHeld N.table self.old.run.past }
+        ensures drains { DrainsGroup N.table group result self.old self.new }
+        ensures drained { AreOwnDrained N.table group self.new }
+        ensures visit { StaysVisited N.table self.old self.new }
     {
         let stocks = self.owners.stocks_of(group);
         self.drain_each(tables, stocks)
@@ -136,23 +136,22 @@ impl<N: BootName> Machine<N> {
         group: GroupId,
         pages: u32,
     ) -> Result<(), Over>
-        requires visit { Visits N.frames self.old cpu.now }
+        requires visit { Visits N.table self.old cpu.now }
         requires charges { MayCharge self.old group pages }
         requires pages { FitsStock pages }
         requires none_fresh { cpu.now.fresh ≡ [] }
-        requires drained { IsDrained N.frames self.old cpu.now.number }
-        ensures fills { OnOk result (Fills N.frames cpu.now.number group pages self.old self.new) }
-        ensures steps { OnOk result (Makes N.frames self.old (fill_steps cpu.now.number group pages) self.new) }
+        requires drained { IsDrained N.table self.old cpu.now.number }
+        ensures fills { OnOk result (Fills N.table cpu.now.number group pages self.old self.new) }
+        ensures steps { OnOk result (Makes N.table self.old (fill_steps cpu.now.number group pages) self.new) }
         ensures over { IfErr result (λ over. LacksRoom self.old group pages over.group) }
-        ensures refused { IfErr result (λ over. RefusesGrant N.frames group pages over.group self.old self.new) }
-        ensures visit { Visits N.frames self.new cpu.now }
+        ensures refused { IfErr result (λ over. RefusesGrant N.table group pages over.group self.old self.new) }
+        ensures visit { Visits N.table self.new cpu.now }
     {
         let cpu_number = cpu.number();
         prove_charges(&self.charges);
         if let Err(over) = self.charges.try_charge(group, pages) {
-            let full = over.group;
             make_step(tables, &mut self.past, &mut self.watch, || {
-                (Action::Grant { group, pages }, Answer::Over(full))
+                (Action::Grant { group, pages }, Answer::Over(over.group))
             });
             return Err(over);
         }

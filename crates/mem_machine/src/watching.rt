@@ -1,9 +1,9 @@
 //! The watch of the machine: how it is put in and read, and how it takes the steps that CPUs make without the machine.
 
 ghost use Rattle.std.specs.Prelude.{◌≡◌, ◌∷◌, []};
+ghost use Rattle.step_rules.specs.After.{cpu_makes};
 ghost use Rattle.step_watch.specs.Watched.{Watches};
 ghost use Rattle.mem_machine.specs.Machines.{with_watch};
-ghost use Rattle.mem_machine.specs.Steps.{cpu_makes};
 
 use crate::machine::Machine;
 use cpu_part::BootName;

@@ -3,13 +3,12 @@ use Rattle.std.proofs.Common.{◌≡◌, ℕ, ◌+◌, ◌==◌, ◌&&◌, cond,
 use Rattle.std.specs.List.{fold}
 use Rattle.std.proofs.lemmas.Bool.{ne_eqb}
 use Rattle.std.proofs.lemmas.List.Sums.{sum_by-append, sum_by-cons}
-use Rattle.frame_word.specs.Seats.{KnownTable}
 use Rattle.group_charge.specs.declared.note.Note.{Note}
 use Rattle.step_rules.specs.declared.step.Step.{Step}
 use Rattle.step_rules.specs.declared.step.Answer.{Answer}
 use Rattle.step_rules.specs.State.{State}
 use Rattle.step_rules.specs.{Run, other_part_seen}
-use Rattle.boot_words.specs.{GrewByAll, IsHeld, own_past, HasNoStepOf}
+use Rattle.boot_words.specs.{GrewByAll, IsHeld, own_past, HasNoStepOf, KnownTable}
 use Rattle.boot_words.specs.declared.past.Past.{Past}
 use Rattle.mem_machine.specs.{KnownMachine, part_at, with_note, Makes, local_of, after_made}
 use Rattle.mem_machine.proofs.Sight.{left_seen, left_then}

@@ -2,13 +2,13 @@
 use Rattle.std.proofs.Common.{◌≡◌, ◌≢◌, ℕ, ◌+◌, ◌≤◌, Bool, true, false, Option, Some, None, List, refl, sym, ap, ◌∙◌, subst, arith, cond}
 use Rattle.std.proofs.lemmas.Bool.{true≢false}
 use Rattle.std.proofs.lemmas.Option.{none-some}
-use Rattle.frame_word.specs.Seats.{KnownTable}
 use Rattle.group_tree.specs.Groups.{in_subtree}
 use Rattle.group_charge.specs.{KnownNotes, current_of}
 use Rattle.lru_lists.specs.declared.record.Link.{Link}
 use Rattle.lru_lists.specs.declared.record.Home.{Home}
 use Rattle.lru_lists.specs.{link_at, SameOwners, owner_of}
-use Rattle.cpu_part.specs.Cpus.{KnownCpu}
+use Rattle.boot_words.specs.Tables.{KnownTable}
+use Rattle.cpu_part.specs.Cpus.{KnownCpuLists}
 use Rattle.mem_machine.specs.{KnownMachine, home_of, left_by, Makes, Visits, KnownRun, evict_steps, MissesUnit, EvictsUnit, Evicts}
 use Rattle.boot_words.specs.Pasts.{IsHeld, local_by_pasts, own_past}
 use Rattle.mem_machine.proofs.Made.{visit_same}
@@ -129,7 +129,7 @@ on_path_low : (b : Bool) (n pages : ℕ) → n ≤ cond b (n + pages) n
 on_path_low true n pages = omega arith
 on_path_low false n pages = omega arith
 
-module _ (t : KnownTable) (m n : KnownMachine) (f : ℕ) (visit : (c : KnownCpu) → Visits t m c → Visits t n c) (held : IsHeld t m.run.past) where
+module _ (t : KnownTable) (m n : KnownMachine) (f : ℕ) (visit : (c : KnownCpuLists) → Visits t m c → Visits t n c) (held : IsHeld t m.run.past) where
   keeps_missed : MissesUnit m n → Makes t m (evict_steps f None) n → Keeps t m n
   keeps_missed is runs =
       let links : n.links ≡ m.links = ap (λ (x : KnownMachine). x.links) is in

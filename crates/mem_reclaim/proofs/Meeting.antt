@@ -5,7 +5,6 @@ use Rattle.std.specs.Prelude.{unwrap_or}
 use Rattle.std.proofs.lemmas.List.{append-nil}
 use Rattle.std.proofs.lemmas.Bool.{cases_eq, true≢false}
 use Rattle.std.proofs.lemmas.Option.{none-some}
-use Rattle.frame_word.specs.Seats.{KnownTable}
 use Rattle.lru_lists.specs.declared.record.Link.{Link}
 use Rattle.lru_lists.specs.declared.record.Home.{Home}
 use Rattle.lru_lists.specs.declared.record.Entry.{Entry}
@@ -13,6 +12,7 @@ use Rattle.lru_lists.specs.declared.record.LruList.{LruList}
 use Rattle.lru_lists.specs.declared.record.LruList.TheVariants.{Inactive, Active}
 use Rattle.lru_lists.specs.{link_at, entries_without, entry_of, marked}
 use Rattle.step_rules.specs.After.{Run}
+use Rattle.boot_words.specs.Tables.{KnownTable}
 use Rattle.mem_machine.specs.{IsConsistent, KnownMachine, home_of, Makes, RenewsUnit, entries_in, EvictsUnit, Evicts, evict_steps}
 use Rattle.boot_words.specs.Pasts.{IsHeld}
 use Rattle.mem_reclaim.specs.{FreesBySteps, missed_in, misses_of, progress, TriesReclaimAs, TriesReclaim, OnlyLeave, IsMissed}

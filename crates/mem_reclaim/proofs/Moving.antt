@@ -2,7 +2,6 @@
 use Rattle.std.proofs.Common.{◌≡◌, ℕ, ◌+◌, ◌^◌, ◌==◌, ◌||◌, Bool, false, Option, Some, None, [], ◌∷◌, ◌++◌, refl, sym, ap, ◌∙◌, subst, arith, cond}
 use Rattle.std.specs.Prelude.{unwrap_or}
 use Rattle.std.proofs.lemmas.List.Folds.{list_any-append}
-use Rattle.frame_word.specs.Seats.{KnownTable}
 use Rattle.step_rules.specs.declared.phase.ChargedUnit.{ChargedUnit}
 use Rattle.step_rules.specs.declared.phase.Stage.{Stage}
 use Rattle.step_rules.specs.declared.phase.Stage.TheVariants.{FreshAt, FreshPassing, Collected, Bare, Live, BackAt, BackPassing, AwaitsReturn}
@@ -12,17 +11,16 @@ use Rattle.step_rules.specs.declared.step.Step.{Step}
 use Rattle.step_rules.specs.declared.step.Action.TheVariants.{Freeze}
 use Rattle.step_rules.specs.declared.step.Answer.{Answer}
 use Rattle.step_rules.specs.declared.step.Answer.TheVariants.{Done, Missed}
-use Rattle.step_rules.specs.{at_stage, unit_of, Run, after, unit_size}
+use Rattle.step_rules.specs.{at_stage, unit_of, Run, after, unit_size, zone_makes}
 use Rattle.step_rules.specs.State.{State}
 use Rattle.group_charge.specs.{KnownNotes}
 use Rattle.step_rules.proofs.Basics.{at_same}
 use Rattle.mem_machine.specs.declared.frame_state.FrameState.TheVariants.{Head}
-use Rattle.boot_words.specs.{hide_phase, hide_stage, IsHeld, own_past}
+use Rattle.boot_words.specs.{hide_phase, hide_stage, IsHeld, own_past, KnownTable}
 use Rattle.mem_machine.specs.{frame_state_at, phase_hidden, KnownRun, KnownMachine, IsConsistent, Makes, lock_holder, local_of, Evicts, evict_steps}
 use Rattle.mem_machine.proofs.Sight.{shown_seen}
 use Rattle.mem_reclaim.proofs.Grown.{misses_after, missed_append}
 use Rattle.mem_machine.specs.Local.{IsLocalRun}
-use Rattle.mem_machine.specs.Steps.{zone_makes}
 use Rattle.mem_machine.specs.declared.counts.Counts.{Counts}
 use Rattle.mem_reclaim.specs.{FreesPages, Rises, all_missed_in, pages_freed_by, pages_returned, returned_in, missed_in, is_kill, has_kill}
 use Rattle.mem_reclaim.proofs.Rising.{missed_both, returned_both, rises_both, rises_none, rises_one}

@@ -5,13 +5,12 @@ use Rattle.std.specs.Prelude.{min}
 use Rattle.std.specs.Int.{bit_at}
 use Rattle.std.proofs.lemmas.Bool.{cases_eq, cases_lt, cond-false, cond-true, eq-eqb, false≢true, ne_eqb, not-true}
 use Rattle.std.proofs.lemmas.Nat.Bits.{bit_at-zero}
-use Rattle.frame_word.specs.Seats.{KnownTable}
 use Rattle.boot_words.specs.Pasts.{IsHeld}
 use Rattle.group_tree.specs.declared.event.EventKey.TheVariants as event
 use Rattle.group_tree.specs.declared.group.Group.{Group}
 use Rattle.group_tree.specs.Groups.{AreGroups, in_subtree}
 use Rattle.group_tree.proofs.CallerLemmas.{in_subtree-below}
-use Rattle.group_charge.specs.declared.settings.Settings.{Settings}
+use Rattle.group_charge.specs.declared.settings.ReclaimSettings.{ReclaimSettings}
 use Rattle.group_charge.specs.Charges.{Ledger, are_protecting, current_of, with_noted}
 use Rattle.group_charge.specs.declared.note.Note.{Note}
 use Rattle.group_charge.specs.declared.note.Note.TheVariants as note
@@ -24,6 +23,7 @@ use Rattle.lru_lists.specs.declared.record.LruList.{LruList}
 use Rattle.lru_lists.specs.declared.record.LruList.TheVariants.{Inactive, Active}
 use Rattle.step_rules.specs.declared.step.NoteKey.TheVariants as key
 use Rattle.step_rules.specs.After.{Run}
+use Rattle.boot_words.specs.Tables.{KnownTable}
 use Rattle.mem_machine.specs.Machines.{KnownMachine, home_of, with_detail, with_run}
 use Rattle.mem_machine.specs.Local.{Makes, StaysVisited}
 use Rattle.mem_machine.specs.Noted.{KnownRun}
@@ -184,7 +184,7 @@ low_broken t of_min of_low usage g want freed m x n last leads held is runs visi
 
 -- ---- a turn
 
-last_not_first : (pass : Pass) (settings : List Settings) → is_last pass settings ≡ true → is_first pass ≡ false
+last_not_first : (pass : Pass) (settings : List ReclaimSettings) → is_last pass settings ≡ true → is_first pass ≡ false
 last_not_first First settings last = absurd (false≢true last)
 last_not_first Second settings last = refl
 last_not_first Third settings last = refl
@@ -420,5 +420,5 @@ as_reclaim t g want freed m n passes are leads = record {
 }
 
 -- the third pass is made if something is protected
-pub with_third : (b : Bool) (settings : List Settings) → are_protecting settings ≡ b → passes_of settings ≡ First ∷ Second ∷ cond b (Third ∷ []) []
+pub with_third : (b : Bool) (settings : List ReclaimSettings) → are_protecting settings ≡ b → passes_of settings ≡ First ∷ Second ∷ cond b (Third ∷ []) []
 with_third b settings is = ap (λ (x : Bool). First ∷ Second ∷ cond x (Third ∷ []) []) is

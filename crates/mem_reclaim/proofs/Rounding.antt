@@ -3,11 +3,11 @@ use Rattle.std.proofs.Common.{◌≡◌, ◌≢◌, ◌⊎◌, ℕ, suc, ◌+◌
 use Rattle.std.specs.Prelude.{nat_lt}
 use Rattle.std.proofs.lemmas.Bool.{lt-ltb}
 use Rattle.std.proofs.lemmas.List.{append_assoc, append-nil}
-use Rattle.frame_word.specs.Seats.{KnownTable}
 use Rattle.group_charge.specs.{current_of}
 use Rattle.step_rules.specs.After.{Run}
 use Rattle.group_charge.specs.declared.note.Note.{Note}
 use Rattle.group_charge.specs.declared.note.Note.TheVariants.{Asked}
+use Rattle.boot_words.specs.Tables.{KnownTable}
 use Rattle.mem_machine.specs.Machines.{KnownMachine, with_note}
 use Rattle.mem_reclaim.specs.{AfterNote, FreesNothing, Reclaiming, progress, FreesPages, FreesBySteps, Reclaims, ReclaimsAmount, ReclaimsPages}
 use Rattle.mem_reclaim.specs.{ReclaimsRound, ReclaimsRounds, pages_missing, round_note, Keeps, MissedAll}

@@ -1,8 +1,8 @@
 -- Things done one after the other, as far as they were done. Serves all loops.
 use Rattle.std.proofs.Common.{◌≡◌, ℕ, ◌+◌, ◌-◌, ◌<◌, ◌≤◌, List, [], ◌∷◌, ◌++◌, refl, sym, subst, inl, inr, arith}
 use Rattle.std.proofs.lemmas.List.{append_assoc, append-nil}
-use Rattle.frame_word.specs.Seats.{KnownTable}
 use Rattle.step_rules.specs.After.{Run}
+use Rattle.boot_words.specs.Tables.{KnownTable}
 use Rattle.mem_machine.specs.Machines.{KnownMachine}
 use Rattle.mem_reclaim.specs.{FreesNothing, Reclaiming, WhileWanted, progress, FreesPages, FreesBySteps}
 use Rattle.mem_reclaim.proofs.Moving.{moves_rest, moves_both}

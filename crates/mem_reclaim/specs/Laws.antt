@@ -1,7 +1,6 @@
 -- What holds of every kill and every reclaim. The promise of memory.oom.group is that of cgroup-v2.rst: a flagged group
 -- is killed as a whole, or no group of it is.
 use Rattle.std.specs.Prelude.{◌≡◌, ℕ, ◌-◌, ◌<◌, ◌≤◌, ◌⊎◌, true, false, Option, Some, List, Contains}
-use Rattle.frame_word.specs.Seats.{KnownTable}
 use Rattle.group_tree.specs.{AreGroups, in_subtree, is_oom_group, max_count}
 use Rattle.group_charge.specs.Charges.{current_of}
 use Rattle.group_protection.specs.Protections.{IsKeptByMin, effective, min_key}
@@ -9,6 +8,7 @@ use Rattle.lru_lists.specs.declared.record.Home.{Home}
 use Rattle.lru_lists.specs.Queue.{link_at}
 use Rattle.step_rules.specs.After.{Run}
 use Rattle.group_charge.specs.declared.note.Note.TheVariants as note
+use Rattle.boot_words.specs.Tables.{KnownTable}
 use Rattle.mem_machine.specs.Machines.{KnownMachine, home_of, with_note}
 use Rattle.mem_reclaim.specs.declared.sets.Killed.{Killed}
 use Rattle.mem_reclaim.specs.Killing.{IsKilledBy, kept_units}

@@ -1,7 +1,6 @@
 -- What the steps of a reclaim do.
 use Rattle.std.specs.Prelude.{◌≡◌, ℕ, ◌+◌, ◌≤◌, ◌==◌, ◌&&◌, ◌⊎◌, Bool, true, false, List, [], ◌∷◌, ◌++◌}
 use Rattle.std.specs.List.{list_any, count_by}
-use Rattle.frame_word.specs.Seats.{KnownTable}
 use Rattle.group_tree.specs.Room.{max_count}
 use Rattle.step_rules.specs.declared.step.Action.{Action}
 use Rattle.step_rules.specs.declared.step.Action.TheVariants.{Freeze, Return, Kill}
@@ -10,6 +9,7 @@ use Rattle.step_rules.specs.declared.step.Answer.TheVariants.{Done, Missed}
 use Rattle.step_rules.specs.{unit_of, Run, after, unit_size}
 use Rattle.step_rules.specs.State.{State}
 use Rattle.boot_words.specs.Pasts.{own_past}
+use Rattle.boot_words.specs.Tables.{KnownTable}
 use Rattle.mem_machine.specs.{KnownMachine, Makes, local_of, Transition, transition}
 use Rattle.mem_reclaim.specs.Wanted.{Reclaiming, progress}
 

@@ -7,7 +7,7 @@ use Rattle.group_tree.specs.declared.event.EventKey.TheVariants as event
 use Rattle.group_tree.specs.declared.group.Group.{Group}
 use Rattle.group_charge.specs.declared.note.Note.{Note}
 use Rattle.group_charge.specs.declared.note.Note.TheVariants.{Low, Spared}
-use Rattle.group_charge.specs.declared.settings.Settings.{Settings}
+use Rattle.group_charge.specs.declared.settings.ReclaimSettings.{ReclaimSettings}
 use Rattle.group_charge.specs.Charges.{are_protecting, current_of, with_noted}
 use Rattle.group_protection.specs.Protections.{effective, low_key, min_key}
 use Rattle.lru_lists.specs.declared.record.LruList.TheVariants.{Inactive, Active}
@@ -117,11 +117,11 @@ ReclaimsPass target pass want done =
     WhileWanted (TakesTurn pass target) (subtree_of done.before.ledger.groups target) want done
 
 -- the passes of a reclaim: the third only if some group of the tree has memory.low or memory.min
-abbrev pub passes_of : List Settings → List Pass
+abbrev pub passes_of : List ReclaimSettings → List Pass
 passes_of settings = First ∷ Second ∷ (if are_protecting settings then Third ∷ [] else [])
 
 -- no pass comes after this one
-abbrev pub is_last : Pass → List Settings → Bool
+abbrev pub is_last : Pass → List ReclaimSettings → Bool
 is_last First settings = false
 is_last Second settings = not (are_protecting settings)
 is_last Third settings = true

@@ -22,11 +22,11 @@ fn make_reclaim_rounds<N: BootName>(
     asked: u64,
 ) -> u64
     requires there { IsTrue (has_group machine.old.ledger.groups group) }
-    requires held { IsHeld N.frames machine.old.run.past }
-    ensures rounds { FreesBySteps N.frames result machine.old machine.new (ReclaimsPages group asked) }
+    requires held { IsHeld N.table machine.old.run.past }
+    ensures rounds { FreesBySteps N.table result machine.old machine.new (ReclaimsPages group asked) }
     ensures missed { result < asked → MissedAll group machine.old machine.new }
     ensures usage { current_of machine.new.ledger group + result ≡ current_of machine.old.ledger group }
-    ensures keeps { Keeps N.frames machine.old machine.new }
+    ensures keeps { Keeps N.table machine.old machine.new }
 {
     machine.prove_usage(group); // At most this much is freed, so no sum overflows.
     let mut freed = 0;
@@ -54,11 +54,11 @@ pub fn reclaim_amount<N: BootName>(
     asked: u64,
 ) -> u64
     requires there { IsTrue (has_group machine.old.ledger.groups group) }
-    requires held { IsHeld N.frames machine.old.run.past }
-    ensures rounds { FreesBySteps N.frames result machine.old machine.new (ReclaimsAmount group asked) }
+    requires held { IsHeld N.table machine.old.run.past }
+    ensures rounds { FreesBySteps N.table result machine.old machine.new (ReclaimsAmount group asked) }
     ensures missed { result < asked → MissedAll group machine.old machine.new }
     ensures usage { current_of machine.new.ledger group + result ≡ current_of machine.old.ledger group }
-    ensures keeps { Keeps N.frames machine.old machine.new }
+    ensures keeps { Keeps N.table machine.old machine.new }
 {
     machine.note(Note::Asked {
         group,

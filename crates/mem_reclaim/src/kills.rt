@@ -26,11 +26,11 @@ fn release_units<N: BootName>(
     group: GroupId,
     list: LruList,
 )
-    requires held { IsHeld N.frames machine.old.run.past }
-    ensures releases { ReleasesUnitsBySteps N.frames (entries_in machine.old group list) machine.old machine.new }
+    requires held { IsHeld N.table machine.old.run.past }
+    ensures releases { ReleasesUnitsBySteps N.table (entries_in machine.old group list) machine.old machine.new }
     ensures empty { entries_in machine.new group list ≡ [] }
-    ensures keeps { OnlyReleases N.frames machine.old machine.new }
-    ensures stocks { KeepsStocks N.frames machine.old machine.new }
+    ensures keeps { OnlyReleases N.table machine.old machine.new }
+    ensures stocks { KeepsStocks N.table machine.old machine.new }
 {
     for _unit in 0..machine.list_len(group, list) {
         machine.prove_consistent();
@@ -48,13 +48,13 @@ fn release_units<N: BootName>(
 fn kill_group<N: BootName>(machine: &mut Machine<N>, tables: &Tables<N>, group: GroupId)
     requires there { IsTrue (has_group machine.old.ledger.groups group) }
     requires alive { is_killed machine.old.killed group ≡ false }
-    requires held { IsHeld N.frames machine.old.run.past }
-    ensures kills { KillsGroupBySteps N.frames group machine.old machine.new }
+    requires held { IsHeld N.table machine.old.run.past }
+    ensures kills { KillsGroupBySteps N.table group machine.old machine.new }
     ensures marked { machine.new.killed ≡ slice_set machine.old.killed group true }
-    ensures drained { AreOwnDrained N.frames group machine.new }
-    ensures stocks { OnlyDrains N.frames machine.old machine.new }
+    ensures drained { AreOwnDrained N.table group machine.new }
+    ensures stocks { OnlyDrains N.table machine.old machine.new }
     ensures none_kept { HasNoKeptUnit group machine.new }
-    ensures keeps { OnlyReleases N.frames machine.old machine.new }
+    ensures keeps { OnlyReleases N.table machine.old machine.new }
 {
     machine.mark_killed(tables, group);
     machine.drain_group_stocks(tables, group);
@@ -74,14 +74,14 @@ fn kill_noted<N: BootName>(
     requires limited { IsTrue (has_group machine.old.ledger.groups limited) }
     requires there { IsTrue (has_group machine.old.ledger.groups group) }
     requires alive { is_killed machine.old.killed group ≡ false }
-    requires held { IsHeld N.frames machine.old.run.past }
-    ensures kills { KillsGroupsBySteps N.frames (group ∷ []) (KillsGroupNoted N.frames limited group) machine.old
+    requires held { IsHeld N.table machine.old.run.past }
+    ensures kills { KillsGroupsBySteps N.table (group ∷ []) (KillsGroupNoted N.table limited group) machine.old
         machine.new }
     ensures marked { machine.new.killed ≡ slice_set machine.old.killed group true }
-    ensures drained { AreOwnDrained N.frames group machine.new }
-    ensures stocks { OnlyDrains N.frames machine.old machine.new }
+    ensures drained { AreOwnDrained N.table group machine.new }
+    ensures stocks { OnlyDrains N.table machine.old machine.new }
     ensures none_kept { HasNoKeptUnit group machine.new }
-    ensures keeps { OnlyReleases N.frames machine.old machine.new }
+    ensures keeps { OnlyReleases N.table machine.old machine.new }
 {
     let had = count_before_kill(machine, group);
     kill_group(machine, tables, group);
@@ -97,16 +97,16 @@ fn kill_below<N: BootName>(
 )
     requires limited { IsTrue (has_group machine.old.ledger.groups limited) }
     requires killed_root { IsTrue (has_group machine.old.ledger.groups killed_root) }
-    requires held { IsHeld N.frames machine.old.run.past }
-    ensures kills { KillsGroupsBySteps N.frames (alive_in_subtree machine.old killed_root)
-        (KillsGroups N.frames limited (alive_in_subtree machine.old killed_root)) machine.old machine.new }
+    requires held { IsHeld N.table machine.old.run.past }
+    ensures kills { KillsGroupsBySteps N.table (alive_in_subtree machine.old killed_root)
+        (KillsGroups N.table limited (alive_in_subtree machine.old killed_root)) machine.old machine.new }
     ensures marked { machine.new.killed ≡ with_all_killed machine.old.killed
         (alive_in_subtree machine.old killed_root) }
-    ensures drained { All (λ group. AreOwnDrained N.frames group machine.new)
+    ensures drained { All (λ group. AreOwnDrained N.table group machine.new)
         (alive_in_subtree machine.old killed_root) }
-    ensures stocks { OnlyDrains N.frames machine.old machine.new }
+    ensures stocks { OnlyDrains N.table machine.old machine.new }
     ensures none_kept { All (λ group. HasNoKeptUnit group machine.new) (alive_in_subtree machine.old killed_root) }
-    ensures keeps { OnlyReleases N.frames machine.old machine.new }
+    ensures keeps { OnlyReleases N.table machine.old machine.new }
 {
     for number in 0..MAX_GROUPS as u32 {
         let Some(turn) = GroupId::of(number) else {
@@ -128,16 +128,16 @@ fn kill_subtree<N: BootName>(
     requires limited { IsTrue (has_group machine.old.ledger.groups limited) }
     requires killed_root { IsTrue (has_group machine.old.ledger.groups killed_root) }
     requires below_root { killed_root ≢ 0 }
-    requires held { IsHeld N.frames machine.old.run.past }
-    ensures kills { KillsGroupsBySteps N.frames (alive_in_subtree machine.old killed_root)
-        (KillsSubtree N.frames limited killed_root) machine.old machine.new }
+    requires held { IsHeld N.table machine.old.run.past }
+    ensures kills { KillsGroupsBySteps N.table (alive_in_subtree machine.old killed_root)
+        (KillsSubtree N.table limited killed_root) machine.old machine.new }
     ensures marked { machine.new.killed ≡ with_all_killed machine.old.killed
         (alive_in_subtree machine.old killed_root) }
-    ensures drained { All (λ group. AreOwnDrained N.frames group machine.new)
+    ensures drained { All (λ group. AreOwnDrained N.table group machine.new)
         (alive_in_subtree machine.old killed_root) }
-    ensures stocks { OnlyDrains N.frames machine.old machine.new }
+    ensures stocks { OnlyDrains N.table machine.old machine.new }
     ensures none_kept { All (λ group. HasNoKeptUnit group machine.new) (alive_in_subtree machine.old killed_root) }
-    ensures keeps { OnlyReleases N.frames machine.old machine.new }
+    ensures keeps { OnlyReleases N.table machine.old machine.new }
 {
     note_subtree(machine, killed_root);
     kill_below(machine, tables, limited, killed_root);
@@ -158,16 +158,16 @@ pub fn kill<N: BootName>(
     group: GroupId,
 ) -> Option<Killed>
     requires there { IsTrue (has_group machine.old.ledger.groups group) }
-    requires held { IsHeld N.frames machine.old.run.past }
+    requires held { IsHeld N.table machine.old.run.past }
     ensures victim { IsVictim machine.old group (victim_of result) }
-    ensures kills { KillsVictim N.frames group result machine.old machine.new }
+    ensures kills { KillsVictim N.table group result machine.old machine.new }
     ensures marked { IfSome result (λ killed.
         machine.new.killed ≡ with_all_killed machine.old.killed (kill_set machine.old killed)) }
     ensures drained { IfSome result (λ killed.
-        All (λ g. AreOwnDrained N.frames g machine.new) (kill_set machine.old killed)) }
-    ensures stocks { OnlyDrains N.frames machine.old machine.new }
+        All (λ g. AreOwnDrained N.table g machine.new) (kill_set machine.old killed)) }
+    ensures stocks { OnlyDrains N.table machine.old machine.new }
     ensures none_kept { IfSome result (λ killed. All (λ g. HasNoKeptUnit g machine.new) (kill_set machine.old killed)) }
-    ensures keeps { OnlyReleases N.frames machine.old machine.new }
+    ensures keeps { OnlyReleases N.table machine.old machine.new }
 {
     let victim = victim(machine, group)?;
     note_victim(machine, group, victim);

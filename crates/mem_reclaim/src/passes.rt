@@ -59,9 +59,9 @@ fn age_and_scan<N: BootName>(
     want: u64,
 ) -> u64
     requires there { IsTrue (has_group machine.old.ledger.groups group) }
-    requires held { IsHeld N.frames machine.old.run.past }
-    ensures passes { FreesBySteps N.frames result machine.old machine.new (PassesGroup true group want) }
-    ensures keeps { Keeps N.frames machine.old machine.new }
+    requires held { IsHeld N.table machine.old.run.past }
+    ensures passes { FreesBySteps N.table result machine.old machine.new (PassesGroup true group want) }
+    ensures keeps { Keeps N.table machine.old machine.new }
     ensures usage { UsageFalls group result machine.old machine.new }
     ensures few { result < want + 2 ^ 32 }
 {
@@ -78,9 +78,9 @@ fn scan_both<N: BootName>(
 ) -> u64
     requires there { IsTrue (has_group machine.old.ledger.groups group) }
     requires wanted { 0 < want }
-    requires held { IsHeld N.frames machine.old.run.past }
-    ensures passes { FreesBySteps N.frames result machine.old machine.new (PassesGroup false group want) }
-    ensures keeps { Keeps N.frames machine.old machine.new }
+    requires held { IsHeld N.table machine.old.run.past }
+    ensures passes { FreesBySteps N.table result machine.old machine.new (PassesGroup false group want) }
+    ensures keeps { Keeps N.table machine.old machine.new }
     ensures usage { UsageFalls group result machine.old machine.new }
     ensures few { result < want + 2 ^ 32 }
     ensures leaves { OnlyLeave machine.old machine.new }
@@ -121,10 +121,10 @@ fn scan_and_note<N: BootName>(
 ) -> u64
     requires there { IsTrue (has_group machine.old.ledger.groups group) }
     requires wanted { 0 < want }
-    requires held { IsHeld N.frames machine.old.run.past }
-    ensures passes { FreesBySteps N.frames result machine.old machine.new
+    requires held { IsHeld N.table machine.old.run.past }
+    ensures passes { FreesBySteps N.table result machine.old machine.new
         (ReclaimsGroup third_pass protection.min protection.low usage group want) }
-    ensures keeps { Keeps N.frames machine.old machine.new }
+    ensures keeps { Keeps N.table machine.old machine.new }
     ensures usage { UsageFalls group result machine.old machine.new }
     ensures few { result < want + 2 ^ 32 }
     ensures leaves { OnlyLeave machine.old machine.new }
@@ -156,10 +156,10 @@ fn reclaim_group<N: BootName>(
 ) -> u64
     requires there { IsTrue (has_group machine.old.ledger.groups group) }
     requires wanted { 0 < want }
-    requires held { IsHeld N.frames machine.old.run.past }
-    ensures passes { FreesBySteps N.frames result machine.old machine.new
+    requires held { IsHeld N.table machine.old.run.past }
+    ensures passes { FreesBySteps N.table result machine.old machine.new
         (ReclaimsGroup pass protection.min protection.low usage group want) }
-    ensures keeps { Keeps N.frames machine.old machine.new }
+    ensures keeps { Keeps N.table machine.old machine.new }
     ensures usage { UsageFalls group result machine.old machine.new }
     ensures few { result < want + 2 ^ 32 }
     ensures leaves { is_first pass ≡ false → OnlyLeave machine.old machine.new }
@@ -215,9 +215,9 @@ fn take_turn<N: BootName>(
     requires there { IsTrue (has_group machine.old.ledger.groups group) }
     requires inside { in_subtree machine.old.ledger.groups target group ≡ true }
     requires wanted { 0 < want }
-    requires held { IsHeld N.frames machine.old.run.past }
-    ensures turn { FreesBySteps N.frames result machine.old machine.new (TakesTurn pass target group want) }
-    ensures keeps { Keeps N.frames machine.old machine.new }
+    requires held { IsHeld N.table machine.old.run.past }
+    ensures turn { FreesBySteps N.table result machine.old machine.new (TakesTurn pass target group want) }
+    ensures keeps { Keeps N.table machine.old machine.new }
     ensures usage { UsageFalls group result machine.old machine.new }
     ensures few { result < want + 2 ^ 32 }
     ensures leaves { is_first pass ≡ false → OnlyLeave machine.old machine.new }
@@ -248,9 +248,9 @@ pub(crate) fn reclaim_pass<N: BootName>(
 ) -> u64
     requires there { IsTrue (has_group machine.old.ledger.groups target) }
     requires subtree { IsSubtree machine.old.ledger.groups target groups }
-    requires held { IsHeld N.frames machine.old.run.past }
-    ensures passes { FreesBySteps N.frames result machine.old machine.new (ReclaimsPass target pass want) }
-    ensures keeps { Keeps N.frames machine.old machine.new }
+    requires held { IsHeld N.table machine.old.run.past }
+    ensures passes { FreesBySteps N.table result machine.old machine.new (ReclaimsPass target pass want) }
+    ensures keeps { Keeps N.table machine.old machine.new }
     ensures usage { current_of machine.new.ledger target + result ≡ current_of machine.old.ledger target }
     ensures few { result < want + 2 ^ 32 }
     ensures tried { is_last pass machine.old.ledger.settings ≡ true → result < want

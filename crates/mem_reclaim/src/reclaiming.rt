@@ -36,11 +36,11 @@ fn make_passes<N: BootName>(
     requires there { IsTrue (has_group machine.old.ledger.groups group) }
     requires wanted { 0 < want }
     requires subtree { IsSubtree machine.old.ledger.groups group groups }
-    requires held { IsHeld N.frames machine.old.run.past }
-    ensures reclaims { FreesBySteps N.frames result machine.old machine.new (Reclaims group want) }
+    requires held { IsHeld N.table machine.old.run.past }
+    ensures reclaims { FreesBySteps N.table result machine.old machine.new (Reclaims group want) }
     ensures missed { result < want → MissedAll group machine.old machine.new }
     ensures usage { current_of machine.new.ledger group + result ≡ current_of machine.old.ledger group }
-    ensures keeps { Keeps N.frames machine.old machine.new }
+    ensures keeps { Keeps N.table machine.old machine.new }
 {
     machine.prove_usage(group); // At most this many pages are freed.
     let first = reclaim_pass(machine, tables, group, groups, want, Pass::First);
@@ -70,12 +70,12 @@ pub fn reclaim<N: BootName>(
     want: u64,
 ) -> Reclaimed
     requires there { IsTrue (has_group machine.old.ledger.groups group) }
-    requires held { IsHeld N.frames machine.old.run.past }
-    ensures reclaims { FreesBySteps N.frames result.pages machine.old machine.new (Reclaims group want) }
+    requires held { IsHeld N.table machine.old.run.past }
+    ensures reclaims { FreesBySteps N.table result.pages machine.old machine.new (Reclaims group want) }
     ensures tried_all { result.tried_all ≡ nat_lt result.pages want }
     ensures missed { IsTrue result.tried_all → MissedAll group machine.old machine.new }
     ensures usage { current_of machine.new.ledger group + result.pages ≡ current_of machine.old.ledger group }
-    ensures keeps { Keeps N.frames machine.old machine.new }
+    ensures keeps { Keeps N.table machine.old machine.new }
 {
     if want == 0 {
         return Reclaimed {

@@ -39,12 +39,12 @@ pub fn reclaim_round<N: BootName>(
     want: u64,
 ) -> Reclaimed
     requires there { IsTrue (has_group machine.old.ledger.groups group) }
-    requires held { IsHeld N.frames machine.old.run.past }
-    ensures makes { FreesBySteps N.frames result.pages machine.old machine.new (ReclaimsRound group number want) }
+    requires held { IsHeld N.table machine.old.run.past }
+    ensures makes { FreesBySteps N.table result.pages machine.old machine.new (ReclaimsRound group number want) }
     ensures tried_all { result.tried_all ≡ nat_lt result.pages want }
     ensures missed { IsTrue result.tried_all → MissedAll group machine.old machine.new }
     ensures usage { current_of machine.new.ledger group + result.pages ≡ current_of machine.old.ledger group }
-    ensures keeps { Keeps N.frames machine.old machine.new }
+    ensures keeps { Keeps N.table machine.old machine.new }
 {
     let before = machine.counts();
     let reclaimed = reclaim(machine, tables, group, want);
@@ -72,12 +72,12 @@ pub fn reclaim_to_limit<N: BootName>(
     limit: u32,
 ) -> u64
     requires there { IsTrue (has_group machine.old.ledger.groups group) }
-    requires held { IsHeld N.frames machine.old.run.past }
-    ensures rounds { FreesBySteps N.frames result machine.old machine.new
+    requires held { IsHeld N.table machine.old.run.past }
+    ensures rounds { FreesBySteps N.table result machine.old machine.new
         (ReclaimsRounds group (pages_missing group need limit) max_rounds) }
     ensures missed { limit < current_of machine.new.ledger group + need → MissedAll group machine.old machine.new }
     ensures usage { current_of machine.new.ledger group + result ≡ current_of machine.old.ledger group }
-    ensures keeps { Keeps N.frames machine.old machine.new }
+    ensures keeps { Keeps N.table machine.old machine.new }
 {
     let mut freed = 0;
     for round in 0..MAX_ROUNDS {

@@ -26,9 +26,9 @@ pub(crate) fn scan<N: BootName>(
 ) -> u64
     requires there { IsTrue (has_group machine.old.ledger.groups group) }
     requires inactive { IsTrue spares_marked → list ≡ Inactive }
-    requires held { IsHeld N.frames machine.old.run.past }
-    ensures scans { FreesBySteps N.frames result machine.old machine.new (ScansList spares_marked group list want) }
-    ensures keeps { Keeps N.frames machine.old machine.new }
+    requires held { IsHeld N.table machine.old.run.past }
+    ensures scans { FreesBySteps N.table result machine.old machine.new (ScansList spares_marked group list want) }
+    ensures keeps { Keeps N.table machine.old machine.new }
     ensures usage { UsageFalls group result machine.old machine.new }
     ensures few { result < want + 2 ^ 32 }
     ensures leaves { spares_marked ≡ false → OnlyLeave machine.old machine.new }

@@ -33,13 +33,13 @@ pub(crate) fn try_reclaim<N: BootName>(
     frame: Frame,
     spares_marked: bool,
 ) -> u32
-    requires frame { frame < N.frames.frames }
+    requires frame { frame < N.table.frames }
     requires unit { unit ≡ entry_of machine.old.links frame }
     requires home { home_of machine.old.links frame ≡ Some (record { owner = group; list = list }) }
     requires inactive { IsTrue spares_marked → list ≡ Inactive }
-    requires held { IsHeld N.frames machine.old.run.past }
-    ensures attempts { FreesBySteps N.frames result machine.old machine.new (TriesReclaim spares_marked group unit 1) }
-    ensures keeps { Keeps N.frames machine.old machine.new }
+    requires held { IsHeld N.table machine.old.run.past }
+    ensures attempts { FreesBySteps N.table result machine.old machine.new (TriesReclaim spares_marked group unit 1) }
+    ensures keeps { Keeps N.table machine.old machine.new }
     ensures usage { UsageFalls group result machine.old machine.new }
 {
     if unit.is_dirty {

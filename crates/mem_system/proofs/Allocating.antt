@@ -2,10 +2,10 @@
 -- does.
 use Rattle.std.proofs.Common.{◌≡◌, ◌≤◌, ℕ, zero, suc, IsTrue, List, [], Some, refl, subst, arith}
 use Rattle.std.specs.Prelude.{Result, Ok, Err, MatchResult, ◌≢◌, ◌∷◌}
-use Rattle.frame_word.specs.Seats.{KnownTable}
 use Rattle.group_tree.specs.Groups.{has_group, number_at}
 use Rattle.group_charge.specs.Charges.{Ledger}
-use Rattle.cpu_part.specs.Cpus.{KnownCpu}
+use Rattle.boot_words.specs.Tables.{KnownTable}
+use Rattle.cpu_part.specs.Cpus.{KnownCpuLists}
 use Rattle.zone_blocks.specs.declared.config.Config.{Config}
 use Rattle.mem_machine.specs.{KnownMachine, VisitMakes, VisitState, visit_state}
 use Rattle.mem_alloc.specs.declared.faults.AllocFault.{AllocFault}
@@ -56,12 +56,12 @@ block_fresh l order (Err RequesterKilled) fresh block none = none
 
 -- ---- a single frame
 
-pub over_is_there : (t : KnownTable) (sizes : Config) (group : ℕ) (m n : KnownMachine) (c d : KnownCpu) (answer : Result ℕ AllocFault)
+pub over_is_there : (t : KnownTable) (sizes : Config) (group : ℕ) (m n : KnownMachine) (c d : KnownCpuLists) (answer : Result ℕ AllocFault)
     → BySteps VisitMakes t (AllocatesFrame sizes group answer) (visit_state m c) (visit_state n d) → (g : ℕ) → answer ≡ Err (Over g) → IsTrue (has_group n.ledger.groups g)
 over_is_there t sizes group m n c d answer told g is = frame_over_there t sizes group g m n c d told.steps
     (subst (λ (r : Result ℕ AllocFault). AllocatesFrame sizes group r (transition t (visit_state m c) told.steps (visit_state n d))) is told.does)
 
-pub frame_allocated : (t : KnownTable) (sizes : Config) (path : List ℕ) (group : ℕ) (m n : KnownMachine) (c d : KnownCpu) (answer : Result ℕ AllocFault)
+pub frame_allocated : (t : KnownTable) (sizes : Config) (path : List ℕ) (group : ℕ) (m n : KnownMachine) (c d : KnownCpuLists) (answer : Result ℕ AllocFault)
     (told : BySteps VisitMakes t (AllocatesFrame sizes group answer) (visit_state m c) (visit_state n d)) → number_at m.ledger.groups path ≡ Some group
     → Allocates sizes path 0 (reply_of n.ledger (outcome_of answer)) (transition t (visit_state m c) told.steps (visit_state n d))
 frame_allocated t sizes path group m n c d answer told found =

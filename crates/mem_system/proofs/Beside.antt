@@ -2,7 +2,6 @@
 use Rattle.std.proofs.Common.{◌≡◌, ◌≢◌, ℕ, ◌==◌, ◌&&◌, Bool, true, false, [], ◌∷◌, ◌++◌, cond, length, refl, sym, ap, ◌∙◌, subst, inl, inr, append_assoc}
 use Rattle.std.specs.List.{fold}
 use Rattle.std.proofs.lemmas.Bool.{and_parts, cases_Bool, eqb-true, false≢true, ne_eqb}
-use Rattle.frame_word.specs.Seats.{KnownTable}
 use Rattle.group_tree.specs.Groups.{has_group}
 use Rattle.group_charge.specs.Charges.{Ledger, peak_of}
 use Rattle.step_rules.specs.declared.step.Step.{Step}
@@ -18,8 +17,9 @@ use Rattle.step_rules.proofs.Peaking.{peaks_are_kept}
 use Rattle.step_rules.proofs.Runs.{allowed, legal_from, state_more}
 use Rattle.boot_words.specs.Runs.{HasNoStepOf}
 use Rattle.boot_words.proofs.Holding.{allowed_at, append_none, take_length}
+use Rattle.boot_words.specs.{zone_of_boot, KnownTable}
 use Rattle.mem_machine.specs.declared.counts.Counts.{Counts}
-use Rattle.mem_machine.specs.{AgreesWithRun, counts_after, counts_along, one_more_last_put, zone_of}
+use Rattle.mem_machine.specs.{AgreesWithRun, counts_after, counts_along, one_more_last_put}
 use Rattle.mem_machine.proofs.Followed.{at_stays, below_stays, is_still, only_made, still_peak}
 use Rattle.mem_system.specs.Locked.{counts_in}
 
@@ -94,10 +94,10 @@ pub record CountsRun (t : KnownTable) (run : Run) (l : Ledger) (x : Counts) : Ty
 pub legal_front : (zone : Zone) (xs ys : Run) → IsLegalRun zone (xs ++ ys) → IsLegalRun zone xs
 legal_front zone xs ys legal = subst (IsLegalRun zone) (take_length xs ys) (legal_from zone (xs ++ ys) (length xs) legal)
 
-counted_one : (t : KnownTable) (run : Run) (e : Step × Answer) (l : Ledger) (x : Counts) → IsLegalRun (zone_of t) (run ++ e ∷ []) → e.0.seat ≢ 0
+counted_one : (t : KnownTable) (run : Run) (e : Step × Answer) (l : Ledger) (x : Counts) → IsLegalRun (zone_of_boot t) (run ++ e ∷ []) → e.0.seat ≢ 0
     → CountsRun t run l x → CountsRun t (run ++ e ∷ []) l x
 counted_one t run e l x legal ne told =
-    let zone = zone_of t in
+    let zone = zone_of_boot t in
     let s = state_of zone run in
     let ok = allowed_at zone run e [] legal in
     let still = other_still s e.0.seat e.0.action e.1 ne ok in
@@ -118,11 +118,11 @@ counted_one t run e l x legal ne told =
     }
 
 -- steps that the zone's seat doesn't make leave what is counted
-pub counted_beside : (t : KnownTable) (run rest : Run) (l : Ledger) (x : Counts) → IsLegalRun (zone_of t) (run ++ rest) → HasNoStepOf 0 rest
+pub counted_beside : (t : KnownTable) (run rest : Run) (l : Ledger) (x : Counts) → IsLegalRun (zone_of_boot t) (run ++ rest) → HasNoStepOf 0 rest
     → CountsRun t run l x → CountsRun t (run ++ rest) l x
 counted_beside t run [] l x legal none told = subst (λ (r : Run). CountsRun t r l x) (sym (append_none run)) told
 counted_beside t run (e ∷ rest) l x legal none told =
     let more = append_assoc run (e ∷ []) rest in
-    let all = subst (IsLegalRun (zone_of t)) (sym more) legal in
+    let all = subst (IsLegalRun (zone_of_boot t)) (sym more) legal in
     subst (λ (r : Run). CountsRun t r l x) more
-    (counted_beside t (run ++ e ∷ []) rest l x all none.1 (counted_one t run e l x (legal_front (zone_of t) (run ++ e ∷ []) rest all) none.0 told))
+    (counted_beside t (run ++ e ∷ []) rest l x all none.1 (counted_one t run e l x (legal_front (zone_of_boot t) (run ++ e ∷ []) rest all) none.0 told))

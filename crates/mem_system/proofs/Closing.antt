@@ -5,7 +5,6 @@ use Rattle.std.specs.Prelude.{All, min}
 use Rattle.std.proofs.lemmas.Bool.{cases_eq}
 use Rattle.std.proofs.lemmas.List.{take_all, drop_all}
 use Rattle.group_tree.specs.Room.{max_count}
-use Rattle.frame_word.specs.{KnownTable, sum_over}
 use Rattle.stock_word.specs.Stock.{stock_pages_of}
 use Rattle.cpu_part.specs.Known.{HasOwn}
 use Rattle.cpu_part.proofs.Owning.{own_same}
@@ -17,8 +16,8 @@ use Rattle.step_rules.specs.State.{Part, State, Zone, is_unheld, live_references
 use Rattle.step_rules.specs.After.{Run, state_of}
 use Rattle.step_rules.proofs.Freeing.{zone_of_run}
 use Rattle.step_rules.proofs.Sums.{sum_only}
-use Rattle.boot_words.specs.{IsClosedRun, IsRunSoFar, hide, hide_phase, hide_stage, own_past, AllOf, BeginsRun, of_number, words_in, zone_of_boot}
-use Rattle.boot_words.specs.{HasSameLists, IsSettledAndDrained, stock_in, stock_said, word_in_phase}
+use Rattle.boot_words.specs.{IsClosedRun, IsRunSoFar, hide, hide_phase, hide_stage, own_past, AllOf, BeginsRun, of_number, sum_over, words_in, zone_of_boot}
+use Rattle.boot_words.specs.{HasSameLists, IsSettledAndDrained, stock_in, stock_said, word_in_phase, KnownTable}
 use Rattle.boot_words.proofs.Counting.{is_low, is_none}
 use Rattle.boot_words.proofs.Left.{zone_left}
 use Rattle.boot_words.proofs.Owning.{lists_are_own}

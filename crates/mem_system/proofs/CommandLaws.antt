@@ -8,7 +8,7 @@ use Rattle.zone_blocks.specs.declared.config.Config.{Config}
 use Rattle.zone_blocks.specs.Config.{IsValidConfig}
 use Rattle.control_files.specs.Files.{name_of_file}
 use Rattle.boot_words.specs.{words_in, zone_of_boot}
-use Rattle.cpu_part.specs.Cpus.{KnownCpu}
+use Rattle.cpu_part.specs.Cpus.{KnownCpuLists}
 use Rattle.step_rules.specs.{one_if, Run}
 use Rattle.mem_machine.specs.{VisitState, visit_state, home_of, settle_steps, open_steps, shut_steps, Transition, transition}
 use Rattle.mem_reclaim.specs.Moves.{has_kill, kills_in}
@@ -53,8 +53,8 @@ only_reclaim_falls_short path file value why call served = elim served.executes.
 
 -- ---- the list after a Release
 
-same_within : (sizes : Config) (c d : KnownCpu) → d ≡ c → ListStaysWithin sizes c d
-same_within sizes c d same within = let long = ap (λ (e : KnownCpu). length e.list) same in omega (arith, long, within)
+same_within : (sizes : Config) (c d : KnownCpuLists) → d ≡ c → ListStaysWithin sizes c d
+same_within sizes c d same within = let long = ap (λ (e : KnownCpuLists). length e.list) same in omega (arith, long, within)
 
 lists_within : (sizes : Config) (f : ℕ) (call : Transition VisitState) → IsValidConfig sizes → ListsFrame sizes f call
     → ListStaysWithin sizes call.before.cpu call.after.cpu
@@ -63,7 +63,7 @@ lists_within sizes f call valid lists within =
     let before = call.before.cpu.list in
     let split = ap length (cut_off cuts.cut call.before.machine call.before.cpu lists.mid.machine lists.mid.cpu cuts.takes).split in
     let parts = length-append cuts.cut lists.mid.cpu.list in
-    let added = ap (λ (e : KnownCpu). length e.list) lists.lends.cpu in
+    let added = ap (λ (e : KnownCpuLists). length e.list) lists.lends.cpu in
     let one = length-append lists.mid.cpu.list (f ∷ []) in
     let some = valid.batch_low in
     let low = valid.high_low in

@@ -6,7 +6,6 @@ use Rattle.std.specs.Prelude.{IfSome}
 use Rattle.std.specs.List.{slice_get}
 use Rattle.std.proofs.lemmas.Bool.{cases_Bool, or_left, or_right, true≢false}
 use Rattle.std.proofs.lemmas.List.{append_cancel_left}
-use Rattle.frame_word.specs.Seats.{KnownTable}
 use Rattle.group_tree.specs.declared.group.Group.{Group}
 use Rattle.group_tree.specs.Groups.{has_group}
 use Rattle.group_charge.specs.Charges.{Ledger, peak_of}
@@ -27,12 +26,12 @@ use Rattle.step_rules.specs.{pushed, IsInterleaved, IsLocalRun, MayFollow, is_ow
 use Rattle.step_rules.proofs.LocalLaws.{other_step_is_hidden, own_step_is_legal}
 use Rattle.step_rules.proofs.Peaking.{peaks_are_kept}
 use Rattle.step_rules.proofs.Runs.{allowed, state_more}
-use Rattle.boot_words.specs.{IsHeld, KnownPasts, Meets, Unlocks, cpu_past, own_past, AllOf, HasNoStepOf}
+use Rattle.boot_words.specs.{IsHeld, KnownPasts, Meets, Unlocks, cpu_past, own_past, AllOf, HasNoStepOf, zone_of_boot, KnownTable}
 use Rattle.boot_words.specs.Pasts.{Locks}
 use Rattle.boot_words.proofs.Holding.{allowed_at, append_none}
 use Rattle.mem_machine.specs.declared.counts.Counts.{Counts}
 use Rattle.mem_machine.specs.{AgreesWithRun, counts_after, counts_along, is_back_passing, one_more_last_put, one_more_return, no_counts}
-use Rattle.mem_machine.specs.{with_killed_fresh, zone_of, Makes, local_of, lock_holder, IsFirst, KnownMachine, with_past, Rests}
+use Rattle.mem_machine.specs.{with_killed_fresh, Makes, local_of, lock_holder, IsFirst, KnownMachine, with_past, Rests}
 use Rattle.mem_machine.proofs.Agreeing.{first_agrees}
 use Rattle.mem_machine.proofs.Tells.{ledgers_agree}
 use Rattle.mem_system.specs.{VisitsFindCounts, CountsItsRun, counts_in}
@@ -170,7 +169,7 @@ count_mixed zone p run a (e ∷ mixed) b x shows leads mixes =
 grown : (t : KnownTable) (run rest : Run) (l : Ledger) (x : Counts) (k : KnownMachine) → (own_past k.run.past).seen ≡ run ++ rest → Rests t k
     → HasNoStepOf 0 rest → k.ledger ≡ l → k.counts ≡ x → CountsRun t run l x → CountsItsRun t k
 grown t run rest l x k is rests none ledger counts told =
-    let legal = subst (IsLegalRun (zone_of t)) is rests.past_is.legal in
+    let legal = subst (IsLegalRun (zone_of_boot t)) is rests.past_is.legal in
     let all : CountsRun t (own_past k.run.past).seen k.ledger k.counts =
     subst (λ (v : Run × Ledger × Counts). CountsRun t v.0 v.1 v.2) (λ i. (sym is i, sym ledger i, sym counts i))
     (counted_beside t run rest l x legal none told) in
@@ -199,7 +198,7 @@ pub visit_counted : (t : KnownTable) (m found n k : KnownMachine) (steps : Run) 
     → found ≡ with_past m found.run.past → Locks t m.run.past past found.run.past → Makes t found steps n
     → k ≡ with_past n k.run.past → Unlocks t n.run.past k.run.past past' → Rests t k → CountsItsRun t k
 visit_counted t m found n k steps past past' rests told locked locks makes unlocked gives rests_after =
-    let zone = zone_of t in
+    let zone = zone_of_boot t in
     let held = found.run.past in
     let p = lock_holder found in
     let a = local_of t found in
@@ -266,14 +265,14 @@ visits_find_counts t left found others sound sound_found is none =
     let here = own_past found.machine.run.past in
     let m = found.machine in
     let l = left.machine.ledger in
-    let legal = subst (IsLegalRun (zone_of t)) is sound_found.quiet.rests.past_is.legal in
+    let legal = subst (IsLegalRun (zone_of_boot t)) is sound_found.quiet.rests.past_is.legal in
     let was : CountsRun t here.seen l left.machine.counts = subst (λ (r : Run). CountsRun t r l left.machine.counts) (sym is)
     (counted_beside t (own_past left.machine.run.past).seen others l left.machine.counts legal none (resting t left.machine sound.quiet.counted)) in
     let now = sound_found.quiet.counted in
     let there = λ (g : ℕ). ap (λ (gs : List Group). has_group gs g) sound_found.consistent.shown.groups in
     record {
       counts = now.counts ∙ sym was.counts;
-      peak = λ g is. peaks_are_kept.one (zone_of t) here.seen g (peak_of m.ledger g) (peak_of l g) (now.agrees.peak g (there g ∙ is))
+      peak = λ g is. peaks_are_kept.one (zone_of_boot t) here.seen g (peak_of m.ledger g) (peak_of l g) (now.agrees.peak g (there g ∙ is))
           (was.agrees.peak g (there g ∙ is));
       events = λ key g is. now.agrees.events key g (there g ∙ is) ∙ sym (was.agrees.events key g (there g ∙ is));
       events_local = λ key g is. now.agrees.events_local key g (there g ∙ is) ∙ sym (was.agrees.events_local key g (there g ∙ is));

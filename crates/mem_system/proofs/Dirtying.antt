@@ -1,10 +1,9 @@
 -- A Dirty that is served right after an Alloc finds the unit that the Alloc gave. Serves `serve_dirty_alloc`.
 use Rattle.std.proofs.Common.{◌≡◌, ℕ, zero, suc, ◌^◌, ◌<◌, ◌≤◌, false, true, Option, Some, List, [], ◌∷◌, ◌++◌, length, refl, sym, ap, ◌∙◌, subst, inl, inr, arith}
-use Rattle.std.specs.Prelude.{Ok}
+use Rattle.std.specs.Prelude.{Ok, unwrap_or}
 use Rattle.std.specs.Borrow.{Bor}
 use Rattle.std.proofs.lemmas.Bool.{false≢true}
 use Rattle.std.proofs.lemmas.Option.{none-some}
-use Rattle.frame_word.specs.Seats.{KnownTable}
 use Rattle.zone_blocks.specs.declared.config.Config.{Config}
 use Rattle.group_tree.specs.declared.fault.Fault.TheVariants.{NotKept}
 use Rattle.step_rules.specs.declared.step.Action.TheVariants.{Consume}
@@ -13,9 +12,9 @@ use Rattle.step_rules.specs.State.{State}
 use Rattle.step_rules.proofs.Basics.{at_same}
 use Rattle.step_rules.proofs.Lists.{times_same}
 use Rattle.step_rules.proofs.SoundSteps.{below_frames}
-use Rattle.boot_words.specs.{cpu_past, zone_of_boot}
+use Rattle.boot_words.specs.{cpu_past, zone_of_boot, KnownTable}
 use Rattle.lru_lists.specs.declared.record.Home.{Home}
-use Rattle.mem_machine.specs.{IsConsistent, KnownMachine, home_of, is_killed, with_run, LendsMany, VisitState, local_of, lock_holder, number_or_0}
+use Rattle.mem_machine.specs.{IsConsistent, KnownMachine, home_of, is_killed, with_run, LendsMany, VisitState, local_of, lock_holder}
 use Rattle.mem_machine.specs.{visit_state, ReturnsAllBack, SettlesAllFresh, is_fresh_killed, settle_steps, open_steps, shut_steps, take_front_steps}
 use Rattle.mem_machine.specs.{stock_group, Transition, transition}
 use Rattle.mem_machine.proofs.Listing.{home_inside}
@@ -224,7 +223,7 @@ module _ (t : KnownTable) (path : Bor (List ℕ)) (f : ℕ) (start now : LockedS
       let alive = ap (λ (x : KnownMachine). is_killed x.killed g) a.serves.machine
       ∙ frame_alive start.locked.sizes g f call (a.serves.executes.allocates.frame refl) in
       let kept = one_fresh t f m s.mid
-      (ap (λ (o : Option ℕ). is_killed now.locked.machine.killed (number_or_0 o)) (group_then t path f start now a (Dirty f) r end d) ∙ alive)
+      (ap (λ (o : Option ℕ). is_killed now.locked.machine.killed (unwrap_or o 0)) (group_then t path f start now a (Dirty f) r end d) ∙ alive)
       (subst (λ (l : List ℕ). SettlesAllFresh t l m s.mid) fresh s.fresh) in
       (kept.0, ap (λ (k : KnownMachine). home_of k.links f) (none_back m.cpu.back s.mid d.serves.settled back s.back) ∙ kept.1)
   settled_home (suc less) a fresh back r end d =

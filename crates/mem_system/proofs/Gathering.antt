@@ -1,8 +1,7 @@
 -- The seats of the CPUs are gathered, one CPU after the other. Serves the end of a system.
 use Rattle.std.proofs.Common.{◌≡◌, ℕ, ◌<◌, List, [], ◌∷◌, ◌++◌, length, map, get_or, refl, sym, ap, subst, arith}
 use Rattle.std.specs.List.{remove}
-use Rattle.frame_word.specs.Seats.{KnownTable}
-use Rattle.boot_words.specs.{HasCpuPast, IsClosedRun, pasts_of_cpus, own_past, AllOf, zone_of_boot}
+use Rattle.boot_words.specs.{HasCpuPast, IsClosedRun, pasts_of_cpus, own_past, AllOf, zone_of_boot, KnownTable}
 use Rattle.mem_machine.specs.{KnownMachine, Rests}
 use Rattle.mem_system.specs.{CpuInRun, KnowsItself, pasts_of, seat_of, IsClosed}
 

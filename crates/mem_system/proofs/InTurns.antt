@@ -4,8 +4,8 @@ use Rattle.std.specs.Prelude.{slice_set, sum_by, All}
 use Rattle.std.proofs.lemmas.List.{drop_more, take_more_set, drop-set-lt, length-set, nil_from_length, take_all, drop_all}
 use Rattle.std.proofs.lemmas.List.Sums.{get_or-le-sum_by, sum_by-cons}
 use Rattle.std.proofs.lemmas.List.Elements.{All-push}
-use Rattle.frame_word.specs.Seats.{KnownTable}
-use Rattle.cpu_part.specs.Cpus.{KnownCpu}
+use Rattle.boot_words.specs.Tables.{KnownTable}
+use Rattle.cpu_part.specs.Cpus.{KnownCpuLists}
 use Rattle.mem_machine.specs.Machines.{KnownMachine}
 use Rattle.mem_system.specs.{CpuInRun, parts_of, ForEachCpu, IsEmptied, LendsAndFillsNone, MachineAndCpu, machine_and_cpu, pins_of_all}
 
@@ -54,12 +54,12 @@ so_far_end Visit i m cpus x now so_far past =
 
 -- ---- what holds of each
 
-pub parts_all : (P : KnownCpu → Type 0) (cpus : List CpuInRun) → All P (parts_of cpus) → All (λ c. P c.part) cpus
+pub parts_all : (P : KnownCpuLists → Type 0) (cpus : List CpuInRun) → All P (parts_of cpus) → All (λ c. P c.part) cpus
 parts_all P [] all k any inside = absurd (omega (arith, inside))
 parts_all P (c ∷ cpus) all zero any inside = all zero c.part (omega arith)
 parts_all P (c ∷ cpus) all (suc k) any inside = parts_all P cpus (λ j other within. all (suc j) other (omega (arith, within))) k any (omega (arith, inside))
 
-pub sum_parts : (h : KnownCpu → ℕ) (cpus : List CpuInRun) → sum_by h (parts_of cpus) ≡ sum_by (λ c. h c.part) cpus
+pub sum_parts : (h : KnownCpuLists → ℕ) (cpus : List CpuInRun) → sum_by h (parts_of cpus) ≡ sum_by (λ c. h c.part) cpus
 sum_parts h [] = refl
 sum_parts h (c ∷ cpus) =
     sum_by-cons h c.part (parts_of cpus) ∙ ap (λ (n : ℕ). h c.part + n) (sum_parts h cpus) ∙ sym (sum_by-cons (λ (d : CpuInRun). h d.part) c cpus)
@@ -72,7 +72,7 @@ no_pin_at cpus now i any inside long left none =
     let all = sum_parts (λ c. length c.pins) cpus in
     ap (λ (l : List CpuInRun). (get_or l 0 any).part.pins) (same_next i cpus now any within long left) ∙ nil_from_length _ (omega (arith, part, all, none))
 
-pub emptied_still : (t : KnownTable) (x y : KnownMachine) → LendsAndFillsNone t x y → (c : KnownCpu) → IsEmptied t x c → IsEmptied t y c
+pub emptied_still : (t : KnownTable) (x y : KnownMachine) → LendsAndFillsNone t x y → (c : KnownCpuLists) → IsEmptied t x c → IsEmptied t y c
 emptied_still t x y alone c emptied =
     record { idle = emptied.idle; none_lent = alone.none_lent c.number emptied.none_lent; drained = alone.drained c.number emptied.drained }
 

@@ -1,10 +1,10 @@
 -- Serves the commands that lower a usage or set a limit, and `execute`.
 use Rattle.std.proofs.Common.{◌≡◌, ℕ, ◌+◌, ◌<◌, ◌≤◌, ◌++◌, [], List, Option, Some, None, true, false, refl, sym, ◌∙◌, subst, arith}
-use Rattle.frame_word.specs.Seats.{KnownTable}
 use Rattle.group_tree.specs.declared.group.Group.{Group}
 use Rattle.group_tree.specs.Groups.{has_group, has_child}
 use Rattle.group_charge.specs.Charges.{current_of}
-use Rattle.cpu_part.specs.Cpus.{KnownCpu}
+use Rattle.boot_words.specs.Tables.{KnownTable}
+use Rattle.cpu_part.specs.Cpus.{KnownCpuLists}
 use Rattle.mem_machine.specs.{KnownMachine, with_run, KeepsVisit, Makes, Visits, drain_stocks_steps, set_max_steps, AreDrained, DrainsSubtree}
 use Rattle.mem_machine.specs.{of_subtree, BySteps, transition}
 use Rattle.mem_machine.proofs.Followed.{makes_both, makes_none}
@@ -15,7 +15,7 @@ use Rattle.mem_system.specs.{IsLeafAt, LowersUsage, LowersAbove, LowersToHigh, K
 use Rattle.mem_system.proofs.Found.{found_there}
 
 -- a call on the machine alone keeps the visit if the CPU is visited after it
-pub keeps_visit : (t : KnownTable) (m n : KnownMachine) (c : KnownCpu) → Visits t n c → KeepsVisit t c n c
+pub keeps_visit : (t : KnownTable) (m n : KnownMachine) (c : KnownCpuLists) → Visits t n c → KeepsVisit t c n c
 keeps_visit t m n c v = record { visit = v; number = refl; back = refl }
 
 -- ---- a usage that is lowered

@@ -1,10 +1,10 @@
 -- Laws of a command's kills. Serves `laws`.
 use Rattle.std.proofs.Common.{◌≡◌, ℕ, List, Option, Some, sym, ap, ◌∙◌, subst, arith}
-use Rattle.frame_word.specs.Seats.{KnownTable}
 use Rattle.group_tree.specs.declared.group.Group.{Group}
 use Rattle.group_tree.specs.Groups.{in_subtree, limit_of}
 use Rattle.group_tree.proofs.CallerLemmas.{limit_of-limited}
 use Rattle.step_rules.specs.After.{Run}
+use Rattle.boot_words.specs.Tables.{KnownTable}
 use Rattle.mem_machine.specs.Machines.{KnownMachine}
 use Rattle.mem_reclaim.specs.declared.sets.Killed.{Killed}
 use Rattle.control_files.specs.Limit.{ReadsAs}

@@ -3,7 +3,6 @@ use Rattle.std.proofs.Common.{◌≡◌, ℕ, ◌+◌, ◌≤◌, ◌^◌, Bool,
 use Rattle.std.specs.Prelude.{Result, Ok, Err, nat_le}
 use Rattle.std.specs.List.{flat_map}
 use Rattle.std.proofs.lemmas.Bool.{cases_eq, cases_lt, leb-false}
-use Rattle.frame_word.specs.Seats.{KnownTable}
 use Rattle.boot_words.specs.Pasts.{IsHeld}
 use Rattle.group_tree.specs.declared.group.Group.{Group}
 use Rattle.group_tree.specs.declared.fault.Fault.TheVariants as fault
@@ -13,7 +12,8 @@ use Rattle.group_charge.specs.Charges.{current_of}
 use Rattle.zone_blocks.specs.declared.config.Config.{Config}
 use Rattle.control_files.specs.declared.file.File.{File}
 use Rattle.control_files.specs.declared.file.File.TheVariants.{Max, High, Low, Min, OomGroup, Reclaim}
-use Rattle.cpu_part.specs.Cpus.{KnownCpu}
+use Rattle.boot_words.specs.Tables.{KnownTable}
+use Rattle.cpu_part.specs.Cpus.{KnownCpuLists}
 use Rattle.step_rules.specs.After.{Run}
 use Rattle.mem_machine.specs.declared.releasing.Released.TheVariants as released
 use Rattle.mem_machine.specs.{KnownMachine, with_run, VisitState, visit_state, release_steps, return_all_steps, all_fresh_steps, fresh_steps}
@@ -174,7 +174,7 @@ module _ (t : KnownTable) (MayAsk : List Group → ℕ → ℕ → Type 0) (s : 
 
   -- ---- an allocation
 
-  module _ (c : KnownCpu) (sizes : Config) (path : List ℕ) (order : ℕ) (asks : (g over : ℕ) → number_at s.ledger.groups path ≡ Some g
+  module _ (c : KnownCpuLists) (sizes : Config) (path : List ℕ) (order : ℕ) (asks : (g over : ℕ) → number_at s.ledger.groups path ≡ Some g
       → in_subtree s.ledger.groups over g ≡ true → 2 ^ order ≤ 8 → MayAsk s.ledger.groups over (2 ^ order)) where
     allocates_for : (answer : Result ℕ AllocFault) (steps : Run) (n : VisitState)
         → AllocatesFor sizes path order answer (transition t (visit_state s c) steps n) → NoRashKill t MayAsk s steps
@@ -200,7 +200,7 @@ module _ (t : KnownTable) (MayAsk : List Group → ℕ → ℕ → Type 0) (s : 
 
 -- ---- all commands
 
-module _ (t : KnownTable) (sizes : Config) (s : KnownMachine) (c : KnownCpu) (held : IsHeld t s.run.past) where
+module _ (t : KnownTable) (sizes : Config) (s : KnownMachine) (c : KnownCpuLists) (held : IsHeld t s.run.past) where
   pub obeys_no_rash : (cmd : LockedCommand) (said : ReplyWithText) (steps : Run) (n : VisitState) → Executes sizes cmd said (transition t (visit_state s c) steps n)
       → NoRashKill t (MayAskFor cmd s.ledger.groups) s steps
   obeys_no_rash (Mkdir path) said steps n h =

@@ -3,8 +3,8 @@ use Rattle.std.proofs.Common.{◌≡◌, ◌≢◌, ℕ, zero, suc, ◌+◌, ◌
 use Rattle.std.specs.Prelude.{slice_set}
 use Rattle.std.proofs.lemmas.Bool.{cases_lt}
 use Rattle.std.proofs.lemmas.List.{length-append, length-take-le}
-use Rattle.frame_word.specs.Seats.{KnownTable}
-use Rattle.cpu_part.specs.Cpus.{KnownCpu}
+use Rattle.boot_words.specs.Tables.{KnownTable}
+use Rattle.cpu_part.specs.Cpus.{KnownCpuLists}
 use Rattle.zone_blocks.specs.declared.config.Config.{Config}
 use Rattle.mem_machine.specs.declared.frame_state.FrameState.{FrameState}
 use Rattle.mem_machine.specs.declared.frame_state.FrameState.TheVariants.{Free}
@@ -23,29 +23,29 @@ set_free (x ∷ xs) (suc f) zero is = is
 set_free (x ∷ xs) (suc f) (suc g) is = set_free xs f g is
 
 -- what the frames returned from the front leave
-pub record Cut (frames : List ℕ) (m : KnownMachine) (c : KnownCpu) (n : KnownMachine) (d : KnownCpu) : Type 0 where
+pub record Cut (frames : List ℕ) (m : KnownMachine) (c : KnownCpuLists) (n : KnownMachine) (d : KnownCpuLists) : Type 0 where
   pub split : c.list ≡ frames ++ d.list
   pub number : d.number ≡ c.number
   pub fresh : d.fresh ≡ c.fresh
   pub back : d.back ≡ c.back
   pub free : (f : ℕ) → frame_state_at m.frame_states f ≡ Free → frame_state_at n.frame_states f ≡ Free
 
-pub cut_off : (frames : List ℕ) (m : KnownMachine) (c : KnownCpu) (n : KnownMachine) (d : KnownCpu) → UnlistsMany frames (visit_state m c) (visit_state n d) → Cut frames m c n d
+pub cut_off : (frames : List ℕ) (m : KnownMachine) (c : KnownCpuLists) (n : KnownMachine) (d : KnownCpuLists) → UnlistsMany frames (visit_state m c) (visit_state n d) → Cut frames m c n d
 cut_off [] m c n d t = record {
-  split = sym (ap (λ (e : KnownCpu). e.list) t.cpu);
-  number = ap (λ (e : KnownCpu). e.number) t.cpu;
-  fresh = ap (λ (e : KnownCpu). e.fresh) t.cpu;
-  back = ap (λ (e : KnownCpu). e.back) t.cpu;
+  split = sym (ap (λ (e : KnownCpuLists). e.list) t.cpu);
+  number = ap (λ (e : KnownCpuLists). e.number) t.cpu;
+  fresh = ap (λ (e : KnownCpuLists). e.fresh) t.cpu;
+  back = ap (λ (e : KnownCpuLists). e.back) t.cpu;
   free = λ f is. ap (λ (k : KnownMachine). frame_state_at k.frame_states f) t.machine ∙ is;
 }
 cut_off (f ∷ rest) m c n d t =
     let one = t.first in
     let more = cut_off rest t.between.machine t.between.cpu n d t.rest in
     record {
-      split = one.front ∙ ap (λ (l : List ℕ). f ∷ l) (sym (ap (λ (e : KnownCpu). e.list) one.cpu) ∙ more.split);
-      number = more.number ∙ ap (λ (e : KnownCpu). e.number) one.cpu;
-      fresh = more.fresh ∙ ap (λ (e : KnownCpu). e.fresh) one.cpu;
-      back = more.back ∙ ap (λ (e : KnownCpu). e.back) one.cpu;
+      split = one.front ∙ ap (λ (l : List ℕ). f ∷ l) (sym (ap (λ (e : KnownCpuLists). e.list) one.cpu) ∙ more.split);
+      number = more.number ∙ ap (λ (e : KnownCpuLists). e.number) one.cpu;
+      fresh = more.fresh ∙ ap (λ (e : KnownCpuLists). e.fresh) one.cpu;
+      back = more.back ∙ ap (λ (e : KnownCpuLists). e.back) one.cpu;
       free = λ g is. more.free g (ap (λ (k : KnownMachine). frame_state_at k.frame_states g) one.machine ∙ set_free m.frame_states f g is);
     }
 
@@ -67,7 +67,7 @@ left_over k list left listed split =
     ap length split ∙ length-append (take k list) left ∙ ap (λ (n : ℕ). n + length left) (length-take-le k list listed)
 
 -- a single frame was freed and added to the list
-pub returned_single : (t : KnownTable) (sizes : Config) (f : ℕ) (m freed n : KnownMachine) (c d : KnownCpu) (returns : ReturnsUnit f m freed)
+pub returned_single : (t : KnownTable) (sizes : Config) (f : ℕ) (m freed n : KnownMachine) (c d : KnownCpuLists) (returns : ReturnsUnit f m freed)
     → returns.unit.order ≡ 0 → Makes t m (release_steps f Returned) freed
     → BySteps VisitMakes t (ListsFrame sizes f) (visit_state freed c) (visit_state n d) → BySteps VisitMakes t (ReturnsFrames sizes f) (visit_state m c) (visit_state n d)
 returned_single t sizes f m freed n c d returns single first lists = record {
@@ -84,7 +84,7 @@ returned_single t sizes f m freed n c d returns single first lists = record {
 }
 
 -- a block was freed
-pub returned_block : (t : KnownTable) (sizes : Config) (f : ℕ) (m freed : KnownMachine) (c : KnownCpu) (returns : ReturnsUnit f m freed)
+pub returned_block : (t : KnownTable) (sizes : Config) (f : ℕ) (m freed : KnownMachine) (c : KnownCpuLists) (returns : ReturnsUnit f m freed)
     → returns.unit.order ≢ 0 → Makes t m (release_steps f Returned) freed
     → BySteps VisitMakes t (ReturnsFrames sizes f) (visit_state m c) (visit_state freed c)
 returned_block t sizes f m freed c returns more first = record {

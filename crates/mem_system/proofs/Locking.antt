@@ -1,7 +1,8 @@
 -- Visits under the lock, and the steps that the watch takes of them. Serves the visits at the end of a system.
 use Rattle.std.proofs.Common.{◌≡◌, ℕ, List, [], ◌∷◌, ◌++◌, sym, ap, ◌∙◌, subst}
-use Rattle.frame_word.specs.Seats.{KnownTable}
-use Rattle.cpu_part.specs.Cpus.{KnownCpu}
+use Rattle.step_rules.specs.After.{cpu_makes}
+use Rattle.boot_words.specs.Tables.{KnownTable}
+use Rattle.cpu_part.specs.Cpus.{KnownCpuLists}
 use Rattle.boot_words.specs.Cpus.{KnownCpuSeat}
 use Rattle.boot_words.specs.Pasts.{IsHeld, KnownPasts, Locks, Unlocks, own_past}
 use Rattle.step_rules.specs.State.{State}
@@ -11,7 +12,6 @@ use Rattle.step_watch.specs.Watched.{KnownWatch, Watches}
 use Rattle.step_watch.proofs.Watching.{watches_none, watches_both}
 use Rattle.mem_machine.specs.{KnownMachine, left_by, part_at, with_past, with_run, with_watch, KnownRun, frame_state_at, Holds, VisitState}
 use Rattle.mem_machine.specs.{VisitMakes, visit_state, HasDrained}
-use Rattle.mem_machine.specs.Steps.{cpu_makes}
 use Rattle.mem_machine.proofs.Sight.{left_seen}
 use Rattle.mem_system.specs.Commands.{Transition, BySteps}
 use Rattle.mem_system.specs.Cpus.{CpuInRun, between_locks, cpu_in_run}
@@ -25,11 +25,11 @@ run_twice m x n r v first second =
     is ∙ ap (with_run m) (sym (ap (λ (k : KnownMachine). k.run) is))
 
 -- a visit between the lock and its release, which the watch takes too
-pub locked_visit : (t : KnownTable) (Does : Transition VisitState → Type 0) (m m0 m1 n1 n2 n : KnownMachine) (c d : KnownCpu) (p : ℕ) → p ≡ c.number
+pub locked_visit : (t : KnownTable) (Does : Transition VisitState → Type 0) (m m0 m1 n1 n2 n : KnownMachine) (c d : KnownCpuLists) (p : ℕ) → p ≡ c.number
     → m0 ≡ with_past m m0.run.past → m1 ≡ with_watch m0 m1.run.watch → Watches m0.run.watch (cpu_makes p Lock Done ∷ []) m1.run.watch
     → Holds t m1 c → BySteps VisitMakes t Does (visit_state m1 c) (visit_state n1 d)
     → n2 ≡ with_watch n1 n2.run.watch → Watches n1.run.watch (cpu_makes p Unlock Done ∷ []) n2.run.watch → n ≡ with_past n2 n.run.past
-    → (seat seat' : KnownCpuSeat) → (own_past seat.seat).number ≡ c.number → Locks t m.run.past seat.seat m0.run.past → Unlocks t n2.run.past n.run.past seat'.seat
+    → (seat seat' : KnownCpuSeat) → (own_past seat.past).number ≡ c.number → Locks t m.run.past seat.past m0.run.past → Unlocks t n2.run.past n.run.past seat'.past
     → VisitsUnderLock t Does (machine_and_cpu m (cpu_in_run c seat)) (machine_and_cpu n (cpu_in_run d seat'))
 locked_visit t Does m m0 m1 n1 n2 n c d p named locks found lock holds visit left unlock frees seat seat' its takes gives =
     let seen : BySteps VisitMakes t Does (visit_state (with_run m m1.run) c) (visit_state n1 d) =
@@ -41,17 +41,17 @@ locked_visit t Does m m0 m1 n1 n2 n c d p named locks found lock holds visit lef
       visit = seen;
       unlock = subst (λ (z : ℕ × KnownWatch). Watches n1.run.watch (cpu_makes z.0 Unlock Done ∷ []) z.1) (λ i. (named i, ap (λ (k : KnownMachine). k.run.watch) (sym frees) i)) unlock;
       machine = run_twice n1 n2 n _ _ left frees;
-      run = visit_in_run t c.number seen.steps m.run.past seat.seat m1.run.past n1.run.past n.run.past seat'.seat its
-          (subst (Locks t m.run.past seat.seat) (sym (ap (λ (k : KnownMachine). k.run.past) found)) takes) seen.makes.noted.grew
-          (subst (λ (x : KnownPasts). Unlocks t x n.run.past seat'.seat) (ap (λ (k : KnownMachine). k.run.past) left) gives);
+      run = visit_in_run t c.number seen.steps m.run.past seat.past m1.run.past n1.run.past n.run.past seat'.past its
+          (subst (Locks t m.run.past seat.past) (sym (ap (λ (k : KnownMachine). k.run.past) found)) takes) seen.makes.noted.grew
+          (subst (λ (x : KnownPasts). Unlocks t x n.run.past seat'.past) (ap (λ (k : KnownMachine). k.run.past) left) gives);
     }
 
 -- what the CPU sees, after a step that the watch takes
-pub holds_seen : (t : KnownTable) (m n : KnownMachine) (c : KnownCpu) → n ≡ with_watch m n.run.watch → Holds t m c → Holds t n c
+pub holds_seen : (t : KnownTable) (m n : KnownMachine) (c : KnownCpuLists) → n ≡ with_watch m n.run.watch → Holds t m c → Holds t n c
 holds_seen t m n c is holds = subst (λ (k : KnownMachine). Holds t k c) (sym is) (record { held = holds.held; who = holds.who; own = holds.own })
 
 -- the CPU that holds the lock stays the same
-pub same_holder : (t : KnownTable) (Does : Transition VisitState → Type 0) (m n : KnownMachine) (c d : KnownCpu) → BySteps VisitMakes t Does (visit_state m c) (visit_state n d)
+pub same_holder : (t : KnownTable) (Does : Transition VisitState → Type 0) (m n : KnownMachine) (c d : KnownCpuLists) → BySteps VisitMakes t Does (visit_state m c) (visit_state n d)
     → Holds t m c → Holds t n d → d.number ≡ c.number
 same_holder t Does m n c d visit first last = sym last.who ∙ visit.makes.holder ∙ first.who
 
@@ -64,7 +64,7 @@ part_unlocked : (t : KnownTable) (held zone cpu : KnownPasts) → IsHeld t held 
 part_unlocked t held zone cpu is unlocks q = ap (λ (s : State). s.parts q) unlocks.left ∙ sym (ap (λ (s : State). s.parts q) (left_seen t held is))
 
 -- the machine of a CPU's visit, when the CPU has released the lock
-pub part_given : (t : KnownTable) (n1 n2 n : KnownMachine) (d : KnownCpu) (past : KnownPasts) → n2 ≡ with_watch n1 n2.run.watch → Holds t n1 d
+pub part_given : (t : KnownTable) (n1 n2 n : KnownMachine) (d : KnownCpuLists) (past : KnownPasts) → n2 ≡ with_watch n1 n2.run.watch → Holds t n1 d
     → Unlocks t n2.run.past n.run.past past → (q : ℕ) → part_at t n q ≡ part_at t n1 q
 part_given t n1 n2 n d past left holds gives q =
     part_unlocked t n1.run.past n.run.past past holds.held (subst (λ (x : KnownPasts). Unlocks t x n.run.past past) (ap (λ (k : KnownMachine). k.run.past) left) gives) q
@@ -74,7 +74,7 @@ pub part_taken : (t : KnownTable) (m m0 m1 : KnownMachine) (past : KnownPasts) �
 part_taken t m m0 m1 past found takes q =
     part_locked t m.run.past past m1.run.past (subst (Locks t m.run.past past) (sym (ap (λ (k : KnownMachine). k.run.past) found)) takes) q
 
-pub emptied_seen : (t : KnownTable) (m n : KnownMachine) (r : KnownRun) (c : KnownCpu) → n ≡ with_run m r → ((q : ℕ) → part_at t n q ≡ part_at t m q)
+pub emptied_seen : (t : KnownTable) (m n : KnownMachine) (r : KnownRun) (c : KnownCpuLists) → n ≡ with_run m r → ((q : ℕ) → part_at t n q ≡ part_at t m q)
     → IsEmptied t m c → IsEmptied t n c
 emptied_seen t m n r c is parts emptied = record {
   idle = emptied.idle;

@@ -1,9 +1,8 @@
 -- Who has a unit, by the state after a run that goes on from the machine's past. Serves `no_unit_is_lost`.
 use Rattle.std.proofs.Common.{◌≡◌, ◌⊎◌, ℕ, ◌+◌, ◌<◌, ◌≤◌, true, Option, Some, None, List, refl, sym, ap, ◌∙◌, inl, inr, arith, zero, suc, eq-eqb}
-use Rattle.std.specs.Prelude.{is_some}
+use Rattle.std.specs.Prelude.{is_some, unwrap_or}
 use Rattle.std.proofs.lemmas.Bool.{cases_lt, cases_eq, false≢true}
 use Rattle.std.proofs.lemmas.Nat.{pow_pos}
-use Rattle.frame_word.specs.Seats.{KnownTable}
 use Rattle.step_rules.specs.declared.phase.ChargedUnit.{ChargedUnit}
 use Rattle.step_rules.specs.declared.phase.Stage.{Stage}
 use Rattle.step_rules.specs.declared.phase.Stage.TheVariants.{FreshAt, Live, BackAt}
@@ -16,14 +15,14 @@ use Rattle.step_rules.specs.State.{State, sum_to}
 use Rattle.step_rules.proofs.Freeing.{zone_of_run}
 use Rattle.step_rules.proofs.Living.{live_are_referenced}
 use Rattle.step_rules.proofs.Runs.{sound_run}
-use Rattle.boot_words.specs.{hide, hide_phase, hide_stage, own_past, zone_of_boot}
+use Rattle.boot_words.specs.{hide, hide_phase, hide_stage, own_past, zone_of_boot, KnownTable}
 use Rattle.boot_words.proofs.Backs.{back_of, backs_are_cpus}
 use Rattle.boot_words.proofs.Left.{zone_left}
-use Rattle.cpu_part.specs.{KnownCpu, HasOwn}
+use Rattle.cpu_part.specs.{KnownCpuLists, HasOwn}
 use Rattle.lru_lists.specs.declared.record.Home.{Home}
 use Rattle.mem_machine.specs.declared.frame_state.FrameState.{FrameState}
 use Rattle.mem_machine.specs.declared.frame_state.FrameState.TheVariants.{Lent, Head}
-use Rattle.mem_machine.specs.{frame_state_at, head_group_of, phase_hidden, number_or_0, FitsFrameState, KnownMachine, IsConsistent, home_of, left_by}
+use Rattle.mem_machine.specs.{frame_state_at, head_group_of, phase_hidden, FitsFrameState, KnownMachine, IsConsistent, home_of, left_by}
 use Rattle.mem_machine.specs.{Rests}
 use Rattle.mem_machine.proofs.NoneLent.{lent_to_cpu}
 use Rattle.mem_system.specs.Lost.{AreAllCpus, ConsistentMachinesLoseNoUnit, SomeCpu, IsKeptFor, HasUnit, HasLent}
@@ -40,7 +39,7 @@ some_seat (suc n) h some = elim (cases_lt 0 (h n)) [
 some_home : (home : Option Home) (x : FrameState) (g : ℕ) → FitsFrameState home x → head_group_of x ≡ Some g
     → ((h : Home) × (home ≡ Some h) × (h.owner ≡ g)) ⊎ (home ≡ None)
 some_home None x g kept group = inr refl
-some_home (Some h) x g kept group = inl (h, refl, ap number_or_0 (sym kept.1 ∙ group))
+some_home (Some h) x g kept group = inl (h, refl, ap (λ (o : Option ℕ). unwrap_or o 0) (sym kept.1 ∙ group))
 
 -- a head that looks live has references, or is a CPU's back frame
 two_ways : (x : Phase) (u : ChargedUnit) → hide_phase x ≡ phase.Head u Live
@@ -65,7 +64,7 @@ lent_ways (phase.Head v stage) p e = by stage (ap (has_as ListFrame p) e ∙ eq-
     by k has = inl has
 lent_ways x p e = inl (ap (has_as ListFrame p) e ∙ eq-eqb p p refl)
 
-module _ (t : KnownTable) (m : KnownMachine) (ok : IsConsistent t m) (rests : Rests t m) (cpus : List KnownCpu) (all : AreAllCpus t m cpus) where
+module _ (t : KnownTable) (m : KnownMachine) (ok : IsConsistent t m) (rests : Rests t m) (cpus : List KnownCpuLists) (all : AreAllCpus t m cpus) where
   abbrev zone : Zone
   zone = zone_of_boot t
 
@@ -82,7 +81,7 @@ module _ (t : KnownTable) (m : KnownMachine) (ok : IsConsistent t m) (rests : Re
   looks f r is = ap (λ (u : State). u.phases f) hidden ∙ ok.shown.phases f ∙ ap phase_hidden is
 
   -- what follows of the CPU of a number, that CPU has
-  its : (p : ℕ) (Has : KnownCpu → Type 0) → (1 ≤ p) × (p ≤ t.cpus) → ((c : KnownCpu) → c.number ≡ p → HasOwn s c → Has c) → SomeCpu cpus Has
+  its : (p : ℕ) (Has : KnownCpuLists → Type 0) → (1 ≤ p) × (p ≤ t.cpus) → ((c : KnownCpuLists) → c.number ≡ p → HasOwn s c → Has c) → SomeCpu cpus Has
   its p Has range has =
       let one = all.all p range.0 range.1 in
       (one.0, one.1, one.2, has one.1 one.3 (all.own one.0 one.1 one.2))

@@ -4,10 +4,9 @@ use Rattle.std.specs.Prelude.{is_some, slice_get}
 use Rattle.std.proofs.lemmas.Option.{get_or_from_slice_get}
 use Rattle.std.proofs.lemmas.Bool.{false≢true}
 use Rattle.atomic_table.specs.Seated.{TableId}
-use Rattle.frame_word.specs.Seats.{KnownTable}
 use Rattle.boot_words.specs.declared.past.Past.{Past}
-use Rattle.boot_words.specs.{IsAwayCpu, KnownCpuSeat, state_left, cpu_at_first, cpus_at_first, no_past}
-use Rattle.cpu_part.specs.{KnownCpu, IsIdle, first_cpu, HasOwn, KnowsItsPart}
+use Rattle.boot_words.specs.{IsAwayCpu, KnownCpuSeat, state_left, cpu_at_first, cpus_at_first, no_past, KnownTable}
+use Rattle.cpu_part.specs.{KnownCpuLists, IsIdle, first_cpu, HasOwn, KnowsItsPart}
 use Rattle.mem_system.specs.Boots.{first_cpus, first_pasts}
 
 -- the seats that are left after i CPUs were dealt
@@ -20,7 +19,7 @@ pub front_is : {A : Type 0} (xs : List A) (first : A) (rest : List A) (taken : A
 front_is xs first rest taken e is = is ∙ ap (λ l. get_or l 0 taken) e
 
 -- a CPU that did nothing knows its part
-pub knows_first : (t : KnownTable) (seat : KnownCpuSeat) (part : KnownCpu) → seat ≡ cpu_at_first t.table seat.number → IsAwayCpu t seat → part ≡ first_cpu seat.number
+pub knows_first : (t : KnownTable) (seat : KnownCpuSeat) (part : KnownCpuLists) → seat ≡ cpu_at_first t.table seat.number → IsAwayCpu t seat → part ≡ first_cpu seat.number
     → KnowsItsPart t seat part
 knows_first t seat part first away is =
     let own : HasOwn (state_left t (cpu_at_first t.table seat.number)) (first_cpu seat.number) = record { list = refl; fresh = refl; back = refl; references = λ f. refl } in

@@ -4,42 +4,41 @@ use Rattle.std.specs.Prelude.{IfSome, IsPermutation, MatchOption, slice_set}
 use Rattle.std.proofs.lemmas.List.{map-append, nil_from_length, take_all, take_more_set}
 use Rattle.std.proofs.lemmas.List.Sorted.{IsPermutation-append_right, IsPermutation-refl, IsPermutation-trans}
 use Rattle.std.proofs.lemmas.List.Sums.{sum_by-append, sum_by-cons}
-use Rattle.frame_word.specs.Seats.{KnownTable}
 use Rattle.frame_word.specs.declared.answers.Put.{Put}
 use Rattle.frame_word.specs.declared.answers.Put.TheVariants.{Left, Last}
 use Rattle.step_rules.specs.{Run, times}
-use Rattle.boot_words.specs.{KnownCpuSeat, GrewByAll, own_past, AllOf, BeginsRun, zone_of_boot}
+use Rattle.boot_words.specs.{KnownCpuSeat, GrewByAll, own_past, AllOf, BeginsRun, zone_of_boot, KnownTable}
 use Rattle.boot_words.proofs.Gaining.{grown_number}
 use Rattle.boot_words.proofs.Grown.{all_grew_both}
-use Rattle.cpu_part.specs.{KnownCpu, UnpinAnswers, steps_of_put, KnowsItsPart}
+use Rattle.cpu_part.specs.{KnownCpuLists, UnpinAnswers, steps_of_put, KnowsItsPart}
 use Rattle.cpu_part.proofs.Counts.{one_shorter}
 use Rattle.cpu_part.proofs.Knowing.{pinned_inside}
 use Rattle.mem_machine.specs.{VisitState, KnownMachine}
 use Rattle.mem_system.specs.{CpuInRun, between_locks, parts_of, pasts_of, IsSound, KnownLocked, Empties, ForEachCpu, SettlesInVisit, VisitsUnderLock}
 use Rattle.mem_system.specs.{machine_and_cpu, pins_of_all, steps_of_visits, EndsCpu, PutsAndEnds, EachPuts, MadePut, PutsPins, frames_put}
 use Rattle.mem_system.specs.{unpin_steps}
-use Rattle.mem_system.specs.declared.ending.SystemEnd.{SystemEnd}
+use Rattle.mem_system.specs.declared.end_with_pins.SystemEnd.{SystemEnd}
 use Rattle.mem_system.specs.Commands.{Transition}
 use Rattle.mem_system.specs.Ends.{Ends}
 
 -- ---- one CPU
 
 -- a frame that the CPU has pinned is one of the table
-pub pin_in_table : (t : KnownTable) (k : KnownCpuSeat) (c : KnownCpu) → KnowsItsPart t k c → (found : Option ℕ)
+pub pin_in_table : (t : KnownTable) (k : KnownCpuSeat) (c : KnownCpuLists) → KnowsItsPart t k c → (found : Option ℕ)
     → MatchOption found (c.pins ≡ []) (λ f. 1 ≤ times f c.pins) → IfSome found (λ f. f < t.frames)
 pin_in_table t k c knows None none = tt
 pin_in_table t k c knows (Some f) pinned = pinned_inside t k c knows f pinned
 
-parted : (f : ℕ) (answer : Put) (c d : KnownCpu) → UnpinAnswers f answer c d → IsPermutation c.pins (f ∷ d.pins)
+parted : (f : ℕ) (answer : Put) (c d : KnownCpuLists) → UnpinAnswers f answer c d → IsPermutation c.pins (f ∷ d.pins)
 parted f (Left n) c d one = one.0
 parted f Last c d one = one.0
 
-same_number : (f : ℕ) (answer : Put) (c d : KnownCpu) → UnpinAnswers f answer c d → d.number ≡ c.number
-same_number f (Left n) c d one = ap (λ (x : KnownCpu). x.number) one.3
-same_number f Last c d one = ap (λ (x : KnownCpu). x.number) one.1
+same_number : (f : ℕ) (answer : Put) (c d : KnownCpuLists) → UnpinAnswers f answer c d → d.number ≡ c.number
+same_number f (Left n) c d one = ap (λ (x : KnownCpuLists). x.number) one.3
+same_number f Last c d one = ap (λ (x : KnownCpuLists). x.number) one.1
 
 -- a reference less
-pub fewer_pins : (f : ℕ) (answer : Put) (c d : KnownCpu) → UnpinAnswers f answer c d → length d.pins < length c.pins
+pub fewer_pins : (f : ℕ) (answer : Put) (c d : KnownCpuLists) → UnpinAnswers f answer c d → length d.pins < length c.pins
 fewer_pins f answer c d one = let fewer = one_shorter f c.pins d.pins (parted f answer c d one) in omega (arith, fewer)
 
 pub put_none : (c : CpuInRun) → PutsPins c c
@@ -98,7 +97,7 @@ pub none_more : (i : ℕ) (cpus : List CpuInRun) (d : CpuInRun) → pins_of_all 
     → pins_of_all (parts_of (take (i + 1) (slice_set cpus i d))) ≡ 0
 none_more i cpus d so_far inside none =
     let own : length d.part.pins ≡ 0 = ap length none in
-    let parts = sum_by-append (λ (x : KnownCpu). length x.pins) (parts_of (take i cpus)) (d.part ∷ []) in
+    let parts = sum_by-append (λ (x : KnownCpuLists). length x.pins) (parts_of (take i cpus)) (d.part ∷ []) in
     let split : parts_of (take i cpus ++ d ∷ []) ≡ parts_of (take i cpus) ++ d.part ∷ [] = map-append (λ (x : CpuInRun). x.part) (take i cpus) (d ∷ []) in
     let none_yet : pins_of_all (parts_of (take i cpus ++ d ∷ [])) ≡ 0 = ap pins_of_all split ∙ omega (arith, parts, own, so_far) in
     subst (λ (l : List CpuInRun). pins_of_all (parts_of l) ≡ 0) (sym (take_more_set cpus i d inside)) none_yet
@@ -141,7 +140,7 @@ module _ (t : KnownTable) (run : Run) where
   each_ends m n x y (a ∷ parked) (b ∷ cpus) [] emptied puts none settles empties last = absurd settles
   each_ends m n x y (a ∷ parked) (b ∷ cpus) (c ∷ settled) [] puts none settles empties last = absurd empties
   each_ends m n x y (a ∷ parked) (b ∷ cpus) (c ∷ settled) (d ∷ emptied) puts none settles empties last =
-      let all : length b.part.pins + pins_of_all (parts_of cpus) ≡ 0 = sym (sum_by-cons (λ (p : KnownCpu). length p.pins) b.part (parts_of cpus)) ∙ none in (
+      let all : length b.part.pins + pins_of_all (parts_of cpus) ≡ 0 = sym (sum_by-cons (λ (p : KnownCpuLists). length p.pins) b.part (parts_of cpus)) ∙ none in (
         ends_cpu m settles.between x empties.between a b c d puts.0 (nil_from_length b.part.pins (omega (arith, all))) settles.first empties.first last.0,
         each_ends settles.between n empties.between y parked cpus settled emptied puts.1 (omega (arith, all)) settles.rest empties.rest last.1,
       )

@@ -1,8 +1,8 @@
 -- Refusals that change nothing. Serves `remove_group` and `write_file`.
 use Rattle.std.proofs.Common.{ℕ, [], List, refl, inl}
-use Rattle.frame_word.specs.Seats.{KnownTable}
 use Rattle.group_tree.specs.declared.fault.Fault.{Fault}
 use Rattle.group_tree.specs.declared.fault.Fault.TheVariants.{BadName, HasChildren, NoGroup}
+use Rattle.boot_words.specs.Tables.{KnownTable}
 use Rattle.mem_machine.specs.{KnownMachine, Makes, BySteps, transition}
 use Rattle.mem_machine.proofs.Followed.{makes_none}
 use Rattle.mem_system.specs.declared.command.ReplyWithText.TheVariants.{Refused}

@@ -1,22 +1,20 @@
 -- How the pasts of the zone and of a CPU go through visits. Serves `serve_outcome` and the visits at the end of a system.
 use Rattle.std.proofs.Common.{◌≡◌, ℕ, List, [], ◌∷◌, ◌++◌, Some, length, refl, sym, ap, ◌∙◌, subst, inr, append_assoc}
 use Rattle.std.specs.Prelude.{◌⊎◌, slice_get, slice_set}
-use Rattle.frame_word.specs.Seats.{KnownTable}
 use Rattle.step_rules.specs.declared.step.Step.{Step}
 use Rattle.step_rules.specs.declared.step.Answer.{Answer}
 use Rattle.step_rules.specs.declared.step.Action.TheVariants.{Lock, Unlock}
 use Rattle.step_rules.specs.declared.step.Answer.TheVariants.{Done}
 use Rattle.step_rules.specs.State.{State}
-use Rattle.step_rules.specs.After.{Run, after}
+use Rattle.step_rules.specs.After.{Run, after, cpu_makes}
 use Rattle.boot_words.specs.declared.past.Past.{Past}
-use Rattle.boot_words.specs.{GrewBy, AllOf, KnownPasts, Unlocks, cpu_past, own_past, GainsSteps, IsRunSoFar}
+use Rattle.boot_words.specs.{GrewBy, AllOf, KnownPasts, Unlocks, cpu_past, own_past, GainsSteps, IsRunSoFar, KnownTable}
 use Rattle.boot_words.specs.Pasts.{Locks}
 use Rattle.boot_words.proofs.Grown.{all_grew_both}
 use Rattle.boot_words.proofs.Holding.{append_none}
 use Rattle.boot_words.proofs.Gaining.{gains_go_on, of_two_seats, visit_gains}
 use Rattle.mem_machine.specs.{KnownMachine, with_run, PastsGrowBy, VisitState, local_of}
 use Rattle.mem_machine.specs.Local.{IsLocalRun}
-use Rattle.mem_machine.specs.Steps.{cpu_makes}
 use Rattle.mem_system.specs.Commands.{Transition}
 use Rattle.mem_system.specs.{CpuInRun, VisitsInRun, between_locks, pasts_of, ForEachCpu, VisitsUnderLock, machine_and_cpu, steps_of_visits}
 

@@ -1,16 +1,16 @@
 -- A CPU is settled, or its list is returned and its stock drained. Serves the visits at the end of a system.
 use Rattle.std.proofs.Common.{◌≡◌, ℕ, zero, suc, ◌<◌, ◌≤◌, Bool, true, false, List, [], ◌∷◌, ◌++◌, length, take, refl, sym, ap, ◌∙◌, subst, inl, inr, arith}
 use Rattle.std.proofs.Common.{append-nil}
-use Rattle.std.specs.Prelude.{slice_set}
+use Rattle.std.specs.Prelude.{slice_set, unwrap_or}
 use Rattle.std.specs.List.{flat_map}
 use Rattle.std.proofs.lemmas.Bool.{cases_lt, false≢true}
 use Rattle.std.proofs.lemmas.List.{nil_from_length}
-use Rattle.frame_word.specs.Seats.{KnownTable}
-use Rattle.cpu_part.specs.Cpus.{KnownCpu}
+use Rattle.boot_words.specs.Tables.{KnownTable}
+use Rattle.cpu_part.specs.Cpus.{KnownCpuLists}
 use Rattle.mem_machine.specs.declared.frame_state.FrameState.{FrameState}
 use Rattle.mem_machine.specs.declared.frame_state.FrameState.TheVariants.{Free, Lent}
 use Rattle.mem_machine.specs.{frame_state_at, KnownMachine, is_killed, with_run, UnlistsMany, Drains, IsDrained, stock_group, visit_state, Makes}
-use Rattle.mem_machine.specs.{VisitMakes, number_or_0, Settles, fresh_steps, is_fresh_killed, return_all_steps, settle_steps, open_steps, shut_steps}
+use Rattle.mem_machine.specs.{VisitMakes, Settles, fresh_steps, is_fresh_killed, return_all_steps, settle_steps, open_steps, shut_steps}
 use Rattle.mem_machine.specs.{drain_list_steps, drain_steps}
 use Rattle.boot_words.specs.Pasts.{IsHeld}
 use Rattle.mem_machine.proofs.DrainingAll.{drained_now, drained_still}
@@ -23,16 +23,16 @@ use Rattle.mem_machine.proofs.Followed.{makes_both}
 -- ---- a settle after the begin of the visit
 
 -- the same frames are settled by the same steps, whether the visit is open
-pub same_settle : (t : KnownTable) (m entered : KnownMachine) (c : KnownCpu) → entered ≡ with_run m entered.run → IsHeld t m.run.past → Makes t m (open_steps c.number) entered
+pub same_settle : (t : KnownTable) (m entered : KnownMachine) (c : KnownCpuLists) → entered ≡ with_run m entered.run → IsHeld t m.run.past → Makes t m (open_steps c.number) entered
     → settle_steps t (visit_state entered c) ≡ settle_steps t (visit_state m c)
 same_settle t m entered c opened is first =
     let groups = groups_kept t m entered (open_steps c.number) is first refl c.number in
     let killed : is_fresh_killed t (visit_state entered c) ≡ is_fresh_killed t (visit_state m c) =
-    λ i. is_killed (ap (λ (k : KnownMachine). k.killed) opened i) (number_or_0 (groups i)) in
+    λ i. is_killed (ap (λ (k : KnownMachine). k.killed) opened i) (unwrap_or (groups i) 0) in
     ap (λ (b : Bool). flat_map (fresh_steps b c.number) c.fresh ++ return_all_steps (visit_state m c)) killed
 
 -- the whole visit in which a CPU is settled, from its three parts
-pub rested : (t : KnownTable) (m n : KnownMachine) (c d : KnownCpu) (entered x : KnownMachine) → IsHeld t m.run.past
+pub rested : (t : KnownTable) (m n : KnownMachine) (c d : KnownCpuLists) (entered x : KnownMachine) → IsHeld t m.run.past
     → entered ≡ with_run m entered.run → d.number ≡ c.number → n ≡ with_run x n.run → Makes t m (open_steps c.number) entered
     → Settles t (visit_state entered c) (visit_state x d) → Makes t entered (settle_steps t (visit_state entered c)) x → Makes t x (shut_steps d.number) n
     → BySteps VisitMakes t SettlesInVisit (visit_state m c) (visit_state n d)
@@ -84,21 +84,21 @@ still_lent (x ∷ xs) zero (suc g) p is = is
 still_lent (x ∷ xs) (suc f) zero p is = is
 still_lent (x ∷ xs) (suc f) (suc g) p is = still_lent xs f g p is
 
-pub record TakenAlone (m : KnownMachine) (c : KnownCpu) (n : KnownMachine) (d : KnownCpu) : Type 0 where
+pub record TakenAlone (m : KnownMachine) (c : KnownCpuLists) (n : KnownMachine) (d : KnownCpuLists) : Type 0 where
   pub lent : (f p : ℕ) → frame_state_at n.frame_states f ≡ Lent p → frame_state_at m.frame_states f ≡ Lent p
   pub pins : d.pins ≡ c.pins
 
-pub taken_alone : (frames : List ℕ) (m : KnownMachine) (c : KnownCpu) (n : KnownMachine) (d : KnownCpu) → UnlistsMany frames (visit_state m c) (visit_state n d) → TakenAlone m c n d
+pub taken_alone : (frames : List ℕ) (m : KnownMachine) (c : KnownCpuLists) (n : KnownMachine) (d : KnownCpuLists) → UnlistsMany frames (visit_state m c) (visit_state n d) → TakenAlone m c n d
 taken_alone [] m c n d t = record {
   lent = λ f p is. sym (ap (λ (k : KnownMachine). frame_state_at k.frame_states f) t.machine) ∙ is;
-  pins = ap (λ (e : KnownCpu). e.pins) t.cpu;
+  pins = ap (λ (e : KnownCpuLists). e.pins) t.cpu;
 }
 taken_alone (f ∷ rest) m c n d t =
     let one = t.first in
     let more = taken_alone rest t.between.machine t.between.cpu n d t.rest in
     record {
       lent = λ g p is. still_lent m.frame_states f g p (sym (ap (λ (k : KnownMachine). frame_state_at k.frame_states g) one.machine) ∙ more.lent g p is);
-      pins = more.pins ∙ ap (λ (e : KnownCpu). e.pins) one.cpu;
+      pins = more.pins ∙ ap (λ (e : KnownCpuLists). e.pins) one.cpu;
     }
 
 -- no stock changes when frames are returned
@@ -107,7 +107,7 @@ no_stock_step p [] = refl
 no_stock_step p (f ∷ rest) = no_stock_step p rest
 
 -- the four parts of the visit
-pub record EmptyParts (t : KnownTable) (m n : KnownMachine) (c d : KnownCpu) (entered x y : KnownMachine) (frames : List ℕ) (pages : ℕ) : Type 0 where
+pub record EmptyParts (t : KnownTable) (m n : KnownMachine) (c d : KnownCpuLists) (entered x y : KnownMachine) (frames : List ℕ) (pages : ℕ) : Type 0 where
   pub held : IsHeld t m.run.past
   pub opened : entered ≡ with_run m entered.run
   pub first : Makes t m (open_steps c.number) entered
@@ -119,7 +119,7 @@ pub record EmptyParts (t : KnownTable) (m n : KnownMachine) (c d : KnownCpu) (en
   pub last : Makes t y (shut_steps d.number) n
   pub same : d.number ≡ c.number
 
-module _ (t : KnownTable) (m n : KnownMachine) (c d : KnownCpu) (entered x y : KnownMachine) (frames : List ℕ) (pages : ℕ)
+module _ (t : KnownTable) (m n : KnownMachine) (c d : KnownCpuLists) (entered x y : KnownMachine) (frames : List ℕ) (pages : ℕ)
     (v : EmptyParts t m n c d entered x y frames pages) where
   entered_held : IsHeld t entered.run.past
   entered_held = v.first.noted.grew.held v.held

@@ -1,15 +1,14 @@
 -- A whole visit under the lock, from what its calls say. Serves `serve_outcome` and `serve_frame_outcome`.
-use Rattle.std.proofs.Common.{◌≡◌, ℕ, true, false, ◌++◌, refl, sym, ap, ◌∙◌, subst}
+use Rattle.std.proofs.Common.{◌≡◌, ℕ, true, false, ◌++◌, refl, sym, ap, ◌∙◌, subst, unwrap_or}
 use Rattle.std.specs.List.{flat_map}
 use Rattle.std.proofs.lemmas.Bool.{false≢true}
-use Rattle.frame_word.specs.Seats.{KnownTable}
 use Rattle.step_rules.specs.declared.phase.Hold.{Hold}
 use Rattle.step_rules.specs.declared.phase.Hold.TheVariants.{HeldBy, Unheld, Visiting}
 use Rattle.step_rules.specs.{Part, is_unheld, visits, Run, state_of}
-use Rattle.boot_words.specs.{KnownCpuSeat, IsHeld, Unlocks, own_past, zone_of_boot}
+use Rattle.boot_words.specs.{KnownCpuSeat, IsHeld, Unlocks, own_past, zone_of_boot, KnownTable}
 use Rattle.boot_words.specs.Pasts.{Locks}
-use Rattle.cpu_part.specs.{KnownCpu, KnowsItsPart}
-use Rattle.mem_machine.specs.{KnownMachine, is_killed, with_past, with_run, without_notes, Holds, IsShut, Makes, number_or_0, visit_state, Rests}
+use Rattle.cpu_part.specs.{KnownCpuLists, KnowsItsPart}
+use Rattle.mem_machine.specs.{KnownMachine, is_killed, with_past, with_run, without_notes, Holds, IsShut, Makes, visit_state, Rests}
 use Rattle.mem_machine.specs.{Settles, fresh_steps, return_all_steps, settle_steps, open_steps, shut_steps, transition}
 use Rattle.mem_machine.proofs.Followed.{makes_both}
 use Rattle.mem_reclaim.proofs.Grown.{held_after, misses_after}
@@ -32,7 +31,7 @@ pub resting_shut : (t : KnownTable) (m : KnownMachine) → Rests t m → AllShut
 resting_shut t m rests p = free_shut p (state_of (zone_of_boot t) (own_past m.run.past).seen).hold rests.free
 
 -- notes that are forgotten leave who holds the lock, and what it sees
-pub forgotten_holds : (t : KnownTable) (m n : KnownMachine) (c : KnownCpu) → n ≡ without_notes m → Holds t m c → Holds t n c
+pub forgotten_holds : (t : KnownTable) (m n : KnownMachine) (c : KnownCpuLists) → n ≡ without_notes m → Holds t m c → Holds t n c
 forgotten_holds t m n c is holds = subst (λ (k : KnownMachine). Holds t k c) (sym is) (record { held = holds.held; who = holds.who; own = holds.own })
 
 pub forgotten_shut : (t : KnownTable) (m n : KnownMachine) (p : ℕ) → n ≡ without_notes m → IsShut t m p → IsShut t n p
@@ -40,17 +39,17 @@ forgotten_shut t m n p is shut = subst (λ (k : KnownMachine). IsShut t k p) (sy
 
 -- What the calls of a visit say, one after the other. The CPU takes the lock, earlier notes are forgotten, the visit is
 -- opened, the CPU is settled, inner steps are made, the visit is shut, and the CPU releases the lock.
-pub record GoesThrough (t : KnownTable) (m : KnownMachine) (c : KnownCpu) (seat : KnownCpuSeat) (inner : Run) (k : KnownMachine) (d : KnownCpu) (seat' : KnownCpuSeat) : Type 0 where
+pub record GoesThrough (t : KnownTable) (m : KnownMachine) (c : KnownCpuLists) (seat : KnownCpuSeat) (inner : Run) (k : KnownMachine) (d : KnownCpuLists) (seat' : KnownCpuSeat) : Type 0 where
   pub found : KnownMachine
   pub begun : KnownMachine
   pub entered : KnownMachine
   pub mid : KnownMachine
-  pub settled : KnownCpu
+  pub settled : KnownCpuLists
   pub done : KnownMachine
   pub left : KnownMachine
   pub knows : KnowsItsPart t seat c
   pub locks : found ≡ with_past m found.run.past
-  pub takes : Locks t m.run.past seat.seat found.run.past
+  pub takes : Locks t m.run.past seat.past found.run.past
   pub holds : Holds t found c
   pub shut : IsShut t found c.number
   pub forgets : begun ≡ without_notes found
@@ -66,9 +65,9 @@ pub record GoesThrough (t : KnownTable) (m : KnownMachine) (c : KnownCpu) (seat 
   pub left_holds : Holds t left d
   pub left_shut : IsShut t left d.number
   pub unlocks : k ≡ with_past left k.run.past
-  pub gives : Unlocks t left.run.past k.run.past seat'.seat
+  pub gives : Unlocks t left.run.past k.run.past seat'.past
 
-module _ (t : KnownTable) (m : KnownMachine) (c : KnownCpu) (seat : KnownCpuSeat) (inner : Run) (k : KnownMachine) (d : KnownCpu) (seat' : KnownCpuSeat)
+module _ (t : KnownTable) (m : KnownMachine) (c : KnownCpuLists) (seat : KnownCpuSeat) (inner : Run) (k : KnownMachine) (d : KnownCpuLists) (seat' : KnownCpuSeat)
     (v : GoesThrough t m c seat inner k d seat') where
   begun_is : v.begun ≡ with_run (without_notes m) v.begun.run
   begun_is = run_twice (without_notes m) (without_notes v.found) v.begun (record (m.run) { past = v.found.run.past }) v.found.run (ap without_notes v.locks) v.forgets
@@ -84,8 +83,8 @@ module _ (t : KnownTable) (m : KnownMachine) (c : KnownCpu) (seat : KnownCpuSeat
   settle_same =
       same_settle t v.begun v.entered c v.opens begun_held v.opening
       ∙ ap (λ (x : KnownMachine). settle_steps t (visit_state x c)) (v.forgets ∙ ap without_notes v.locks)
-      ∙ ap (λ (q : Part). flat_map (fresh_steps (is_killed m.killed (number_or_0 q.stock.group)) c.number) c.fresh ++ return_all_steps (visit_state m c))
-      (part_locked t m.run.past seat.seat v.found.run.past v.takes c.number)
+      ∙ ap (λ (q : Part). flat_map (fresh_steps (is_killed m.killed (unwrap_or q.stock.group 0)) c.number) c.fresh ++ return_all_steps (visit_state m c))
+      (part_locked t m.run.past seat.past v.found.run.past v.takes c.number)
 
   -- the machine found, and what it is when the visit is opened and when it is shut
   found_is : v.found ≡ with_run m v.found.run
@@ -117,10 +116,10 @@ module _ (t : KnownTable) (m : KnownMachine) (c : KnownCpu) (seat : KnownCpuSeat
   -- the machine still counts its run
   pub counted : Rests t m → CountsItsRun t m → Rests t k → CountsItsRun t k
   counted rests told rests_after =
-      visit_counted t m v.found v.left k (visit_steps t (visit_state m c) inner) seat.seat seat'.seat rests told v.locks v.takes all_made v.unlocks v.gives rests_after
+      visit_counted t m v.found v.left k (visit_steps t (visit_state m c) inner) seat.past seat'.past rests told v.locks v.takes all_made v.unlocks v.gives rests_after
 
 -- the whole command
-pub served : (t : KnownTable) (cmd : LockedCommand) (reply : ReplyWithText) (l k : KnownLocked) (c : KnownCpu) (seat : KnownCpuSeat) (inner : Run) (d : KnownCpu) (seat' : KnownCpuSeat)
+pub served : (t : KnownTable) (cmd : LockedCommand) (reply : ReplyWithText) (l k : KnownLocked) (c : KnownCpuLists) (seat : KnownCpuSeat) (inner : Run) (d : KnownCpuLists) (seat' : KnownCpuSeat)
     (v : GoesThrough t l.machine c seat inner k.machine d seat') → k.sizes ≡ l.sizes
     → Executes l.sizes cmd reply (transition t (visit_state v.mid v.settled) inner (visit_state v.done d))
     → IsServed t cmd reply (locked_state l (cpu_in_run c seat)) (locked_state k (cpu_in_run d seat'))
@@ -129,7 +128,7 @@ served t cmd reply l k c seat inner d seat' v sizes executed =
     let m = l.machine in
     let steps = visit_steps t (visit_state m c) inner in
     let all = all_made t m c seat inner k.machine d seat' v in
-    let its : (own_past seat.seat).number ≡ p = sym v.knows.is.number ∙ v.knows.number in
+    let its : (own_past seat.past).number ≡ p = sym v.knows.is.number ∙ v.knows.number in
     let held = held_after t v.entered (settle_steps t (visit_state v.entered c)) v.mid v.settling
     (held_after t v.begun (open_steps p) v.entered v.opening (begun_held t m c seat inner k.machine d seat' v)) in
     record {
@@ -165,5 +164,5 @@ served t cmd reply l k c seat inner d seat' v sizes executed =
         watch = ap (λ (x : KnownMachine). x.run.watch) v.unlocks;
         unlocks = v.gives;
       };
-      run = visit_in_run t p steps m.run.past seat.seat v.found.run.past v.left.run.past k.machine.run.past seat'.seat its v.takes all.noted.grew v.gives;
+      run = visit_in_run t p steps m.run.past seat.past v.found.run.past v.left.run.past k.machine.run.past seat'.past its v.takes all.noted.grew v.gives;
     }

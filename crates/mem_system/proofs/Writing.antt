@@ -5,7 +5,7 @@ use Rattle.group_tree.specs.declared.fault.Fault.TheVariants.{Again, BadLimit, B
 use Rattle.control_files.specs.declared.file.File.{File}
 use Rattle.control_files.specs.declared.file.File.TheVariants.{Current, Max, High, Low, Min, Peak, Events, EventsLocal, OomGroup, Reclaim, Stat}
 use Rattle.control_files.specs.{is_writable, IsNoFlagText, ReadsAmount, ReadsAs, IsNoAmountText, IsNoLimitText, IsTooGreat}
-use Rattle.frame_word.specs.Seats.{KnownTable}
+use Rattle.boot_words.specs.Tables.{KnownTable}
 use Rattle.mem_machine.specs.{KnownMachine, Makes, BySteps, Transition, transition}
 use Rattle.mem_machine.proofs.Followed.{makes_both, makes_none}
 use Rattle.group_charge.specs.Charges.{current_of}

@@ -1,13 +1,13 @@
 -- What else holds of every command that was served, and of every end, whichever function made it.
 use Rattle.std.specs.Prelude.{◌≡◌, ℕ, ◌≤◌, ◌<◌, ◌⊎◌, List, [], slice_index}
 use Rattle.std.specs.Borrow.{Bor}
-use Rattle.frame_word.specs.Seats.{KnownTable}
 use Rattle.zone_blocks.specs.declared.config.Config.{Config}
 use Rattle.zone_blocks.specs.Config.{IsValidConfig}
 use Rattle.group_tree.specs.declared.fault.Fault.{Fault}
 use Rattle.group_tree.specs.declared.fault.Fault.TheVariants.{Again}
 use Rattle.control_files.specs.declared.file.File.TheVariants.{Reclaim}
 use Rattle.control_files.specs.Files.{name_of_file}
+use Rattle.boot_words.specs.Tables.{KnownTable}
 use Rattle.mem_machine.specs.Local.{VisitState}
 use Rattle.mem_reclaim.specs.Moves.{kills_in}
 use Rattle.mem_system.specs.declared.audit.Audit.{Audit}

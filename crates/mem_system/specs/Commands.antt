@@ -1,7 +1,7 @@
 -- What each command does inside a visit, by which steps, and with which reply.
 use Rattle.std.specs.Prelude.{◌≡◌, ℕ, true, false, ◌+◌, ◌<◌, ◌≤◌, List, [], length}
-use Rattle.frame_word.specs.Seats.{KnownTable}
-use Rattle.cpu_part.specs.Cpus.{KnownCpu}
+use Rattle.boot_words.specs.Tables.{KnownTable}
+use Rattle.cpu_part.specs.Cpus.{KnownCpuLists}
 use Rattle.zone_blocks.specs.declared.config.Config.{Config}
 use Rattle.zone_blocks.specs.Config.{IsValidConfig}
 use Rattle.mem_machine.specs.{VisitState, Visits, KnownMachine}
@@ -36,7 +36,7 @@ IsOfZone table command = NamesFrameBelow table.frames command
 
 -- What a command finds inside its visit. The CPU is visited and settled, the sizes are in their ranges, and the tables
 -- have these sizes.
-pub record MayExecute (table : KnownTable) (sizes : Config) (machine : KnownMachine) (cpu : KnownCpu) : Type 0 where
+pub record MayExecute (table : KnownTable) (sizes : Config) (machine : KnownMachine) (cpu : KnownCpuLists) : Type 0 where
   pub visit : Visits table machine cpu
   pub settled : IsSettled cpu
   pub valid : IsValidConfig sizes
@@ -62,14 +62,14 @@ FreshAfter (Alloc path order) reply fresh = FreshOf reply order fresh
 FreshAfter other reply fresh = fresh ≡ []
 
 -- what a command leaves to settle: no back frame, and no fresh frame except the one that an Alloc returned
-abbrev pub IsSettledAfter : LockedCommand → ReplyWithText → KnownCpu → Type 0
+abbrev pub IsSettledAfter : LockedCommand → ReplyWithText → KnownCpuLists → Type 0
 IsSettledAfter cmd reply cpu = FreshAfter cmd reply cpu.fresh × (cpu.back ≡ [])
 
 -- if the CPU's list had at most `high` frames, it still has at most `high`
-abbrev pub ListStaysWithin : Config → (before after : KnownCpu) → Type 0
+abbrev pub ListStaysWithin : Config → (before after : KnownCpuLists) → Type 0
 ListStaysWithin sizes before after = length before.list ≤ sizes.high → length after.list ≤ sizes.high
 
 -- if the CPU's list had at most `high` frames, its list and its fresh frames together have at most `high`
-abbrev pub ListAndFreshStayWithin : Config → (before after : KnownCpu) → Type 0
+abbrev pub ListAndFreshStayWithin : Config → (before after : KnownCpuLists) → Type 0
 ListAndFreshStayWithin sizes before after =
     length before.list ≤ sizes.high → length after.list + length after.fresh ≤ sizes.high

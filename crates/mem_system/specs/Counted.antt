@@ -1,11 +1,10 @@
 -- What a visit finds counted.
 use Rattle.std.specs.Prelude.{◌≡◌, ℕ, ◌++◌, true}
-use Rattle.frame_word.specs.Seats.{KnownTable}
 use Rattle.group_tree.specs.declared.event.EventKey.{EventKey}
 use Rattle.group_tree.specs.{count_of, has_group}
 use Rattle.group_charge.specs.Charges.{events_local_of, events_of, peak_of}
 use Rattle.step_rules.specs.After.{Run}
-use Rattle.boot_words.specs.{own_past, HasNoStepOf}
+use Rattle.boot_words.specs.{own_past, HasNoStepOf, KnownTable}
 use Rattle.mem_machine.specs.Machines.{KnownMachine}
 use Rattle.mem_system.specs.Locked.{IsSound, KnownLocked}
 

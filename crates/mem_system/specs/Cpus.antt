@@ -1,35 +1,33 @@
 -- What contracts see of a CPU, and how a visit goes on with its past and the zone's.
 use Rattle.std.specs.Prelude.{◌≡◌, ℕ, List, [], ◌∷◌, ◌++◌, map}
-use Rattle.frame_word.specs.Seats.{KnownTable}
 use Rattle.step_rules.specs.declared.step.Action.TheVariants.{Lock, Unlock}
 use Rattle.step_rules.specs.declared.step.Answer.TheVariants.{Done}
-use Rattle.step_rules.specs.After.{Run}
-use Rattle.stock_word.specs.declared.view.Stock.{Stock}
+use Rattle.step_rules.specs.After.{Run, cpu_makes}
+use Rattle.stock_word.specs.declared.stock.Stock.{Stock}
 use Rattle.boot_words.specs.declared.past.Past.{Past}
-use Rattle.boot_words.specs.{KnownPasts, own_past, GrewByAll, KnownCpuSeat}
-use Rattle.cpu_part.specs.{KnownCpu, KnowsItsPart}
-use Rattle.mem_machine.specs.Steps.{cpu_makes}
+use Rattle.boot_words.specs.{KnownPasts, own_past, GrewByAll, KnownCpuSeat, KnownTable}
+use Rattle.cpu_part.specs.{KnownCpuLists, KnowsItsPart}
 
 -- a CPU as callers have it: its part, its own past of the run, and the stock that it saw last
 pub record CpuInRun : Type 0 where
-  pub part : KnownCpu
+  pub part : KnownCpuLists
   pub past : KnownPasts
   pub last : Stock
 
 -- the CPU with this part and this seat
-abbrev pub cpu_in_run : KnownCpu → KnownCpuSeat → CpuInRun
-cpu_in_run part seat = record { part = part; past = seat.seat; last = seat.last }
+abbrev pub cpu_in_run : KnownCpuLists → KnownCpuSeat → CpuInRun
+cpu_in_run part seat = record { part = part; past = seat.past; last = seat.last }
 
 -- the CPU's seat
 abbrev pub seat_of : CpuInRun → KnownCpuSeat
-seat_of cpu = record { seat = cpu.past; number = cpu.part.number; last = cpu.last }
+seat_of cpu = record { past = cpu.past; number = cpu.part.number; last = cpu.last }
 
 -- the CPU knows its own part by its seat
 abbrev pub KnowsItself : KnownTable → CpuInRun → Type 0
 KnowsItself table cpu = KnowsItsPart table (seat_of cpu) cpu.part
 
 -- the parts of the CPUs
-abbrev pub parts_of : List CpuInRun → List KnownCpu
+abbrev pub parts_of : List CpuInRun → List KnownCpuLists
 parts_of cpus = map (λ cpu. cpu.part) cpus
 
 -- the CPUs' own pasts

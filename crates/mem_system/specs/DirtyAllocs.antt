@@ -1,7 +1,7 @@
 -- How a unit is allocated and noted as dirty, with nothing served in between.
 use Rattle.std.specs.Prelude.{ℕ, List}
 use Rattle.std.specs.Borrow.{Bor}
-use Rattle.frame_word.specs.Seats.{KnownTable}
+use Rattle.boot_words.specs.Tables.{KnownTable}
 use Rattle.mem_system.specs.declared.command.LockedCommand.TheVariants.{Alloc, Dirty}
 use Rattle.mem_system.specs.declared.command.ReplyWithText.TheVariants.{Done}
 use Rattle.mem_system.specs.declared.outcome.Outcome.{Outcome}

@@ -3,17 +3,18 @@
 use Rattle.std.specs.Prelude.{◌≡◌, ℕ, ◌+◌, ◌≤◌, ◌<◌, is_some, true, List, [], ◌∷◌, ◌++◌, length, min, sum_by, slice_index, All}
 use Rattle.step_rules.specs.declared.step.Action.TheVariants.{Lock, Unlock}
 use Rattle.step_rules.specs.declared.step.Answer.TheVariants.{Done}
-use Rattle.step_rules.specs.{is_unheld, one_if, Run, state_of}
-use Rattle.frame_word.specs.Seats.{KnownTable}
-use Rattle.stock_word.specs.declared.view.Stock.{Stock}
+use Rattle.step_rules.specs.{is_unheld, one_if, Run, state_of, cpu_makes}
+use Rattle.stock_word.specs.declared.stock.Stock.{Stock}
 use Rattle.stock_word.specs.{word_of, stock_pages_of, stock_index, report_index}
 use Rattle.group_tree.specs.Room.{max_count}
 use Rattle.boot_words.specs.{zone_of_boot, cpu_past, own_past, hide, words_in, IsClosedRun, IsEndOfRun, pasts_of_cpus, KnownCpuSeat, IsRunSoFar}
-use Rattle.cpu_part.specs.Cpus.{KnownCpu, IsIdle}
+use Rattle.boot_words.specs.Tables.{KnownTable}
+use Rattle.cpu_part.specs.Cpus.{KnownCpuLists, IsIdle}
+use Rattle.cpu_part.specs.declared.boot_name.Tables.{Tables}
+use Rattle.mem_system.specs.declared.boot_end.Pinned.{Pinned}
 use Rattle.mem_machine.specs.{KnownMachine, IsConsistent, IsShownBy, home_of, part_at, with_run, KnownRun, Settles, UnlistsMany, Drains, IsDrained}
 use Rattle.mem_machine.specs.{stock_group, open_steps, shut_steps, drain_list_steps, drain_steps, frames_free, frames_in_groups, NoneLentTo}
 use Rattle.mem_machine.specs.{VisitState, visit_state, VisitMakes}
-use Rattle.mem_machine.specs.Steps.{cpu_makes}
 use Rattle.mem_system.specs.declared.audit.Audit.{Audit}
 use Rattle.mem_system.specs.Locked.{KnownLocked, IsQuiet}
 use Rattle.mem_system.specs.Commands.{Transition, BySteps}
@@ -22,12 +23,21 @@ use Rattle.mem_system.specs.Visits.{with_run_at, visit_steps}
 use Rattle.step_watch.specs.Watched.{Watches}
 
 -- how many pins the CPUs have together
-abbrev pub pins_of_all : List KnownCpu → ℕ
+abbrev pub pins_of_all : List KnownCpuLists → ℕ
 pins_of_all cpus = sum_by (λ cpu. length cpu.pins) cpus
 
 -- how many fresh frames the CPUs put back on their own lists
-abbrev pub drops_of : List KnownCpu → ℕ
+abbrev pub drops_of : List KnownCpuLists → ℕ
 drops_of cpus = sum_by (λ cpu. cpu.drops) cpus
+
+-- pins remain at these CPUs, and all parts of the boot are returned as they were
+pub record IsPinned {N : Type 0} {boot : _} (behind : KnownLocked) (table : Tables N boot) (all : List CpuInRun)
+    (pinned : Pinned N boot) : Type 0 where
+  pub pins : pinned.pins ≡ pins_of_all (parts_of all)
+  pub some_pin : 1 ≤ pinned.pins
+  pub locked : pinned.locked ≡ behind
+  pub tables : pinned.tables ≡ table
+  pub cpus : pinned.cpus.items ≡ all
 
 -- the CPU is settled in a visit
 pub record SettlesInVisit (call : Transition VisitState) : Type 0 where
@@ -104,13 +114,13 @@ steps_of_visits table Does before (cpu ∷ cpus) after (cpu_left ∷ left) visit
     ++ steps_of_visits table Does visits.between cpus after left visits.rest
 
 -- the CPU has no fresh frame, no back frame and no pin
-pub record IsSettledUnpinned (cpu : KnownCpu) : Type 0 where
+pub record IsSettledUnpinned (cpu : KnownCpuLists) : Type 0 where
   pub none_fresh : cpu.fresh ≡ []
   pub none_back : cpu.back ≡ []
   pub no_pin : cpu.pins ≡ []
 
 -- the CPU has no frame on any of its lists and no pin, no frame is lent to it, and its stock is drained
-pub record IsEmptied (table : KnownTable) (machine : KnownMachine) (cpu : KnownCpu) : Type 0 where
+pub record IsEmptied (table : KnownTable) (machine : KnownMachine) (cpu : KnownCpuLists) : Type 0 where
   pub idle : IsIdle cpu
   pub none_lent : NoneLentTo cpu.number machine.frame_states
   pub drained : IsDrained table machine cpu.number

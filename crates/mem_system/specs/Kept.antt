@@ -1,7 +1,7 @@
 -- What contracts see of the fields behind the zone's lock, and what always holds of them.
 use Rattle.std.specs.Prelude.{length}
 use Rattle.std.specs.Vec.{vec_capacity}
-use Rattle.frame_word.specs.Seats.{KnownTable}
+use Rattle.boot_words.specs.Tables.{KnownTable}
 use Rattle.mem_system.specs.declared.lock.Locked.TheInside.{Inside}
 use Rattle.mem_system.specs.Locked.{KnownLocked, IsEmptyWithRoom, IsQuiet}
 

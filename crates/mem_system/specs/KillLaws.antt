@@ -1,7 +1,6 @@
 -- What holds of each kill of a command beside that it comes last: all groups of its set die with it, and the limit has
 -- no room for what the command asked for.
 use Rattle.std.specs.Prelude.{◌≡◌, ℕ, ◌+◌, ◌<◌, ◌≤◌, ◌^◌, true, Some, List, ◌∷◌, ◌++◌}
-use Rattle.frame_word.specs.Seats.{KnownTable}
 use Rattle.group_tree.specs.declared.group.Group.{Group}
 use Rattle.group_tree.specs.Groups.{in_subtree, limit_of, number_at}
 use Rattle.group_charge.specs.Charges.{Ledger, current_of}
@@ -9,6 +8,7 @@ use Rattle.step_rules.specs.declared.step.Action.TheVariants.{Kill}
 use Rattle.step_rules.specs.declared.step.Answer.{Answer}
 use Rattle.step_rules.specs.declared.step.Step.{Step}
 use Rattle.step_rules.specs.After.{Run}
+use Rattle.boot_words.specs.Tables.{KnownTable}
 use Rattle.mem_machine.specs.Machines.{KnownMachine}
 use Rattle.mem_alloc.specs.{DiesWithItsSet, ComesLast}
 use Rattle.mem_system.specs.declared.command.LockedCommand.{LockedCommand}

@@ -1,6 +1,6 @@
 -- What always holds of a boot whose last visits are made.
 use Rattle.std.specs.Prelude.{◌≡◌, length, All}
-use Rattle.frame_word.specs.Seats.{KnownTable}
+use Rattle.boot_words.specs.Tables.{KnownTable}
 use Rattle.mem_machine.specs.Resting.{Rests}
 use Rattle.mem_system.specs.Cpus.{parts_of}
 use Rattle.mem_system.specs.Ends.{KnownEmptiedBoot, IsEmptied}

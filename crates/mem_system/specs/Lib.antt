@@ -4,7 +4,7 @@ pub mod Boots
 pub mod Commands
 pub mod Counted
 pub mod Cpus
-pub mod Ending
+pub mod EndsWithPins
 pub mod Ends
 pub mod Files
 pub mod Groups
@@ -32,8 +32,8 @@ pub use Rattle.mem_system.specs.Boots.{IsSizedAs, KnownBoot, KnownSystem, first_
 pub use Rattle.mem_system.specs.Commands.{Executes, IsOfZone, ListAndFreshStayWithin, ListStaysWithin, NamesFrameBelow}
 pub use Rattle.mem_system.specs.Counted.{VisitsFindCounts}
 pub use Rattle.mem_system.specs.Cpus.{CpuInRun, KnowsItself, VisitsInRun, between_locks, cpu_in_run, parts_of, pasts_of, seat_of}
-pub use Rattle.mem_system.specs.Ending.{EndsCpu, HasEnded, PutsAndEnds}
-pub use Rattle.mem_system.specs.Ends.{AreLastWords, Closes, Empties, ForEachCpu, HasNoPage, IsAuditOf, IsClosed, IsEmptied, IsSettledUnpinned}
+pub use Rattle.mem_system.specs.EndsWithPins.{EndsCpu, HasEnded, PutsAndEnds}
+pub use Rattle.mem_system.specs.Ends.{AreLastWords, Closes, Empties, ForEachCpu, HasNoPage, IsAuditOf, IsClosed, IsEmptied, IsPinned, IsSettledUnpinned}
 pub use Rattle.mem_system.specs.Ends.{KnownEmptiedBoot, LendsAndFillsNone, MachineAndCpu, MakesLastVisits, SettlesInVisit, VisitsUnderLock, drops_of}
 pub use Rattle.mem_system.specs.Ends.{machine_and_cpu, pins_of_all, steps_of_visits}
 pub use Rattle.mem_system.specs.Files.{HasNoFile, IsFileOf, IsLimitFor, Reads, RefusesValue, SetsFile, SetsLimit, Writes, WritesTo, with_high_of, with_low_of, with_min_of}

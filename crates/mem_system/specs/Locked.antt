@@ -1,11 +1,10 @@
 -- What lies behind the zone's lock, and what always holds of it.
 use Rattle.std.specs.Prelude.{◌≡◌, ℕ, ◌≤◌, false}
-use Rattle.boot_words.specs.{SeesMore, own_past, zone_of_boot}
-use Rattle.frame_word.specs.Seats.{KnownTable}
+use Rattle.boot_words.specs.{SeesMore, own_past, zone_of_boot, KnownTable}
 use Rattle.zone_blocks.specs.declared.config.Config.{Config}
 use Rattle.zone_blocks.specs.Config.{IsValidConfig}
 use Rattle.group_charge.specs.Charges.{AreCharges}
-use Rattle.mem_machine.specs.{AgreesWithRun, counts_along, no_counts, zone_of, IsConsistent, KnownMachine, Rests}
+use Rattle.mem_machine.specs.{AgreesWithRun, counts_along, no_counts, IsConsistent, KnownMachine, Rests}
 use Rattle.mem_machine.specs.declared.counts.Counts.{Counts}
 use Rattle.mem_system.specs.Boots.{IsSizedAs}
 use Rattle.mem_system.specs.Cpus.{CpuInRun}
@@ -22,7 +21,7 @@ AllShut table machine = (cpu : ℕ) → visits cpu (state_of (zone_of_boot table
 
 -- how many units ended, were freed or were missed in a run from the boot on
 abbrev pub counts_in : KnownTable → Run → Counts
-counts_in table run = counts_along (at_boot (zone_of table)) run no_counts
+counts_in table run = counts_along (at_boot (zone_of_boot table)) run no_counts
 
 -- What the machine counted is what the zone's past counts: each group's peak and events, and how many units ended, were
 -- freed or were missed.

@@ -5,8 +5,8 @@ use Rattle.group_tree.specs.declared.fault.Fault.{Fault}
 use Rattle.group_charge.specs.Charges.{Ledger}
 use Rattle.control_files.specs.Files.{file_text}
 use Rattle.control_files.specs.Stat.{stat_text}
-use Rattle.frame_word.specs.Seats.{KnownTable}
-use Rattle.cpu_part.specs.Cpus.{KnownCpu}
+use Rattle.boot_words.specs.Tables.{KnownTable}
+use Rattle.cpu_part.specs.Cpus.{KnownCpuLists}
 use Rattle.mem_machine.specs.{KnownMachine, Makes, VisitDoes, VisitState, Transition, BySteps}
 use Rattle.mem_system.specs.declared.outcome.Outcome.{Outcome}
 use Rattle.mem_system.specs.declared.outcome.Outcome.TheVariants as outcome
@@ -51,7 +51,7 @@ HasItsGroups ledger other = Unit {0}
 -- A call had this outcome: local steps lead from one visit state to another and do this, with the reply that the ledger
 -- after them makes of the outcome.
 abbrev pub ComesTo : KnownTable → Outcome → (ReplyWithText → Transition VisitState → Type 0)
-    → KnownMachine → KnownCpu → KnownMachine → KnownCpu → Type 0
+    → KnownMachine → KnownCpuLists → KnownMachine → KnownCpuLists → Type 0
 ComesTo table outcome Does machine cpu machine_after cpu_after =
     VisitDoes table (Does (reply_of machine_after.ledger outcome)) machine cpu machine_after cpu_after
 

@@ -1,6 +1,6 @@
 -- What is served before a text of the machine is written, and what a look at words leaves.
 use Rattle.std.specs.Prelude.{◌≡◌, ℕ, List, Option, Some, None}
-use Rattle.frame_word.specs.Seats.{KnownTable}
+use Rattle.boot_words.specs.Tables.{KnownTable}
 use Rattle.mem_system.specs.declared.command.LockedCommand.TheVariants.{Settle}
 use Rattle.mem_system.specs.declared.command.ReplyWithText.TheVariants.{Done}
 use Rattle.machine_texts.specs.Units.{ReadsUnits}

@@ -1,11 +1,11 @@
 -- How a command is served: in a visit of its CPU, under the lock.
 use Rattle.std.specs.Prelude.{◌≡◌, ℕ, false, Some, List, [], ◌++◌}
 use Rattle.std.specs.Borrow.{Bor}
-use Rattle.frame_word.specs.Seats.{KnownTable}
 use Rattle.zone_blocks.specs.declared.config.Config.{Config}
 use Rattle.boot_words.specs.Pasts.{Locks, Unlocks}
 use Rattle.group_tree.specs.Groups.{number_at}
 use Rattle.step_rules.specs.After.{Run}
+use Rattle.boot_words.specs.Tables.{KnownTable}
 use Rattle.mem_machine.specs.{KnownMachine, with_run, without_notes, VisitState, visit_state, Holds, IsShut, Makes, KnownRun, Settles, settle_steps}
 use Rattle.mem_machine.specs.{stock_left, open_steps, shut_steps}
 use Rattle.mem_reclaim.specs.Moves.{has_kill}

@@ -41,11 +41,11 @@ fn allocate_as<N: BootName>(
     group: GroupId,
     order: Order,
 ) -> Result<Frame, AllocFault>
-    requires visit { MayExecute N.frames sizes machine.old cpu.old }
+    requires visit { MayExecute N.table sizes machine.old cpu.old }
     requires there { IsTrue (has_group machine.old.ledger.groups group) }
-    ensures allocates { VisitDoes N.frames (AllocatesAs sizes group order result)
+    ensures allocates { VisitDoes N.table (AllocatesAs sizes group order result)
         machine.old cpu.old machine.new cpu.new }
-    ensures stays { KeepsVisit N.frames cpu.old machine.new cpu.new }
+    ensures stays { KeepsVisit N.table cpu.old machine.new cpu.new }
     ensures fresh { FreshOf (reply_of machine.new.ledger (outcome_of result)) order cpu.new.fresh }
     ensures at_most_high { ListAndFreshStayWithin sizes cpu.old cpu.new }
     ensures there { (g : ℕ) → result ≡ Err (cause_is.Over g) → IsTrue (has_group machine.new.ledger.groups g) }
@@ -66,11 +66,11 @@ pub(crate) fn allocate<N: BootName>(
     path: &[u8],
     order: u32,
 ) -> Outcome
-    requires visit { MayExecute N.frames sizes machine.old cpu.old }
-    ensures allocates { ComesTo N.frames result (Allocates sizes path.now order)
+    requires visit { MayExecute N.table sizes machine.old cpu.old }
+    ensures allocates { ComesTo N.table result (Allocates sizes path.now order)
         machine.old cpu.old machine.new cpu.new }
     ensures groups { HasItsGroups machine.new.ledger result }
-    ensures stays { KeepsVisit N.frames cpu.old machine.new cpu.new }
+    ensures stays { KeepsVisit N.table cpu.old machine.new cpu.new }
     ensures fresh { FreshOf (reply_of machine.new.ledger result) order cpu.new.fresh }
     ensures at_most_high { ListAndFreshStayWithin sizes cpu.old cpu.new }
 {

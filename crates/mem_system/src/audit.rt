@@ -28,7 +28,7 @@ pub struct Audit {
 
 // The audit of a machine that lends no frame, so all frames that aren't charged are free. `drops` are the CPUs' own.
 pub(crate) fn take_audit<N: BootName>(machine: &Machine<N>, tables: &Tables<N>, drops: u64) -> Audit
-    ensures { ((cpu : ℕ) → NoneLentTo cpu machine.now.frame_states) → IsAuditOf N.frames machine.now drops result }
+    ensures { ((cpu : ℕ) → NoneLentTo cpu machine.now.frame_states) → IsAuditOf N.table machine.now drops result }
 {
     machine.prove_consistent();
     let frames = tables.words.frames();

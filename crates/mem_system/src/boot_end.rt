@@ -1,9 +1,9 @@
 //! The end of a system: the last visits of its CPUs are made, and then the table is closed.
 
-ghost use Rattle.std.specs.Prelude.{◌≡◌, ◌<◌, ◌≤◌, ◌^◌, min, length, IfOk, IfErr};
+ghost use Rattle.std.specs.Prelude.{◌≡◌, ◌<◌, ◌^◌, min, length, IfOk, IfErr};
 ghost use Rattle.group_tree.specs.Room.{max_count};
 ghost use Rattle.mem_system.specs.Cpus.{parts_of};
-ghost use Rattle.mem_system.specs.Ends.{Ends, MakesLastVisits, drops_of, pins_of_all};
+ghost use Rattle.mem_system.specs.Ends.{Ends, IsPinned, MakesLastVisits, drops_of, pins_of_all};
 
 use crate::audit::Audit;
 use crate::cpus::Cpu;
@@ -54,13 +54,9 @@ pub fn make_last_visits<N: BootName>(
     tables: Tables<N>,
     mut cpus: Vec<Cpu<N>>,
 ) -> Result<EmptiedBoot<N>, Pinned<N>>
-    requires { length cpus.items ≡ N.frames.cpus }
-    ensures visits { IfOk result (MakesLastVisits N.frames locked cpus.items) }
-    ensures pins { IfErr result (λ pinned. pinned.pins ≡ pins_of_all (parts_of cpus.items)) }
-    ensures some_pin { IfErr result (λ pinned. 1 ≤ pinned.pins) }
-    ensures locked { IfErr result (λ pinned. pinned.locked ≡ locked) }
-    ensures tables { IfErr result (λ pinned. pinned.tables ≡ tables) }
-    ensures cpus { IfErr result (λ pinned. pinned.cpus.items ≡ cpus.items) }
+    requires { length cpus.items ≡ N.table.cpus }
+    ensures visits { IfOk result (MakesLastVisits N.table locked cpus.items) }
+    ensures pinned { IfErr result (IsPinned locked tables cpus.items) }
 {
     prove_sizes(&tables);
     let pins = count_pins(&cpus);
@@ -97,13 +93,9 @@ pub fn end<N: BootName>(
     tables: Tables<N>,
     cpus: Vec<Cpu<N>>,
 ) -> Result<Audit, Pinned<N>>
-    requires { length cpus.items ≡ N.frames.cpus }
-    ensures ends { IfOk result (λ audit. Ends N.frames locked cpus.items audit) }
-    ensures pins { IfErr result (λ pinned. pinned.pins ≡ pins_of_all (parts_of cpus.items)) }
-    ensures some_pin { IfErr result (λ pinned. 1 ≤ pinned.pins) }
-    ensures locked { IfErr result (λ pinned. pinned.locked ≡ locked) }
-    ensures tables { IfErr result (λ pinned. pinned.tables ≡ tables) }
-    ensures cpus { IfErr result (λ pinned. pinned.cpus.items ≡ cpus.items) }
+    requires { length cpus.items ≡ N.table.cpus }
+    ensures ends { IfOk result (λ audit. Ends N.table locked cpus.items audit) }
+    ensures pinned { IfErr result (IsPinned locked tables cpus.items) }
 {
     match make_last_visits(locked, tables, cpus) {
         Ok(emptied) => Ok(emptied.close()),

@@ -15,7 +15,7 @@ use zone_blocks::config::Config;
 /// is out of its range, else `NoMemory` if memory runs out.
 pub fn boot(alloc: Global, sizes: Config) -> Result<Boot, BootFault>
     ensures sizes { IfOk result (λ boot. boot.sizes ≡ sizes) }
-    ensures sized { IfOk result (λ boot. IsSizedAs sizes boot.frames) }
+    ensures sized { IfOk result (λ boot. IsSizedAs sizes boot.table) }
     ensures bad_config { (result ≡ Err BadConfig) ↔ (¬ IsValidConfig sizes) }
 {
     if !sizes.is_valid() {

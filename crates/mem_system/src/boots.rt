@@ -1,4 +1,4 @@
-//! A boot: the table of its words with all its seats, and the machine, tables and CPUs' parts that it becomes.
+//! A boot: the table of its words with all its seats, and the machine, table and CPUs' parts that it becomes.
 
 ghost use Rattle.std.specs.Prelude.{◌≡◌, [], length, All, IfOk};
 ghost use Rattle.boot_words.specs.{IsRunSoFar, IsAwayCpu, cpus_at_first, seat_at_first, AllOf, own_past};
@@ -51,26 +51,26 @@ impl Model for Boot {
 
     ghost Value = { KnownBoot };
 
-    ghost view = { λ b. record { sizes = b.sizes; frames = b.words } };
+    ghost view = { λ b. record { sizes = b.sizes; table = b.words } };
 
     ghost invariant = { λ b.
-        IsBooted (record { sizes = b.sizes; frames = b.words }) b.zone b.cpus.items };
+        IsBooted (record { sizes = b.sizes; table = b.words }) b.zone b.cpus.items };
 }
 
 impl Boot {
-    /// Makes the parts of the boot, under a name of its tables: what lies behind the lock, the tables, and a part for
+    /// Makes the parts of the boot, under a name of its table: what lies behind the lock, the table, and a part for
     /// each CPU, in order. This call reserves all memory that later calls need. It returns `AllocError` if memory runs
     /// out; nothing is left then.
     pub fn into_parts<N: BootName>(
         self,
         alloc: Global,
     ) -> Result<(Locked<N>, Tables<N>, Vec<Cpu<N>>), AllocError>
-        requires frames { self.frames ≡ N.frames }
-        ensures machine { IfOk result (λ parts. IsFirst N.frames parts.0.machine) }
+        requires table { self.table ≡ N.table }
+        ensures machine { IfOk result (λ parts. IsFirst N.table parts.0.machine) }
         ensures sizes { IfOk result (λ parts. parts.0.sizes ≡ self.sizes) }
         ensures cpus { IfOk result (λ parts. parts_of parts.2.items ≡ first_cpus 1 self.sizes.cpus) }
-        ensures count { IfOk result (λ parts. length parts.2.items ≡ N.frames.cpus) }
-        ensures sized { IfOk result (λ _. IsSizedAs self.sizes N.frames) }
+        ensures count { IfOk result (λ parts. length parts.2.items ≡ N.table.cpus) }
+        ensures sized { IfOk result (λ _. IsSizedAs self.sizes N.table) }
         ensures so_far { IfOk result (λ parts.
             IsRunSoFar [] (own_past parts.0.machine.run.past) (pasts_of parts.2.items)) }
     {
@@ -91,15 +91,15 @@ impl Boot {
         }
     }
 
-    /// Starts the boot under a name of its tables: returns the system, and a part for each CPU, in order. It returns
+    /// Starts the boot under a name of its table: returns the system, and a part for each CPU, in order. It returns
     /// `AllocError` if memory runs out; nothing is left then. A clause can't look through the lock: `Boot::into_parts`
     /// says what lies behind it.
     pub fn start<N: BootName>(self, alloc: Global) -> Result<(System<N>, Vec<Cpu<N>>), AllocError>
-        requires frames { self.frames ≡ N.frames }
+        requires table { self.table ≡ N.table }
         ensures sizes { IfOk result (λ started. started.0.sizes ≡ self.sizes) }
         ensures cpus { IfOk result (λ started.
             parts_of started.1.items ≡ first_cpus 1 self.sizes.cpus) }
-        ensures count { IfOk result (λ started. length started.1.items ≡ N.frames.cpus) }
+        ensures count { IfOk result (λ started. length started.1.items ≡ N.table.cpus) }
     {
         let (locked, tables, cpus) = self.into_parts(alloc)?;
         Ok((System::of(locked, tables), cpus))
@@ -115,9 +115,9 @@ fn new_locked<N: BootName>(
     zone: PastSeat,
 ) -> Result<Locked<N>, AllocError>
     requires valid { IsValidConfig sizes }
-    requires sized { IsSizedAs sizes N.frames }
-    requires zone { zone ≡ seat_at_first N.frames.table 0 }
-    ensures machine { IfOk result (λ locked. IsFirst N.frames locked.machine) }
+    requires sized { IsSizedAs sizes N.table }
+    requires zone { zone ≡ seat_at_first N.table.table 0 }
+    ensures machine { IfOk result (λ locked. IsFirst N.table locked.machine) }
     ensures sizes { IfOk result (λ locked. locked.sizes ≡ sizes) }
     ensures past { IfOk result (λ locked. locked.machine.run.past ≡ zone) }
 {
@@ -136,8 +136,8 @@ fn make_cpus<N: BootName>(
     cpus: u32,
     mut seats: Vec<CpuSeat>,
 ) -> Result<Vec<Cpu<N>>, AllocError>
-    requires seats { seats.items ≡ cpus_at_first N.frames.table 1 cpus }
-    requires away { AllOf (IsAwayCpu N.frames) seats.items }
+    requires seats { seats.items ≡ cpus_at_first N.table.table 1 cpus }
+    requires away { AllOf (IsAwayCpu N.table) seats.items }
     ensures parts { IfOk result (λ made. parts_of made.items ≡ first_cpus 1 cpus) }
     ensures pasts { IfOk result (λ made. pasts_of made.items ≡ first_pasts 1 cpus) }
 {

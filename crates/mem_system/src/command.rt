@@ -113,11 +113,11 @@ pub(crate) fn execute<N: BootName>(
     sizes: Config,
     cmd: &LockedCommand<'_>,
 ) -> Outcome
-    requires zone { IsOfZone N.frames cmd.now }
-    requires visit { MayExecute N.frames sizes machine.old cpu.old }
-    ensures executed { ComesTo N.frames result (Executes sizes cmd.now) machine.old cpu.old machine.new cpu.new }
+    requires zone { IsOfZone N.table cmd.now }
+    requires visit { MayExecute N.table sizes machine.old cpu.old }
+    ensures executed { ComesTo N.table result (Executes sizes cmd.now) machine.old cpu.old machine.new cpu.new }
     ensures groups { HasItsGroups machine.new.ledger result }
-    ensures stays { KeepsVisit N.frames cpu.old machine.new cpu.new }
+    ensures stays { KeepsVisit N.table cpu.old machine.new cpu.new }
     ensures fresh { FreshAfter cmd.now (reply_of machine.new.ledger result) cpu.new.fresh }
     ensures at_most_high { ListAndFreshStayWithin sizes cpu.old cpu.new }
 {

@@ -4,11 +4,11 @@ ghost use Rattle.std.specs.Prelude.{◌≡◌, ◌≢◌, ◌+◌, ◌<◌, ◌�
 ghost use Rattle.std.specs.Prelude.{MatchResult};
 ghost use Rattle.frame_word.specs.declared.answers.Get.TheVariants.{Zero};
 ghost use Rattle.boot_words.specs.{GrewByAll, RacesAt, IsAwayCpu, cpu_at_first, own_past, zone_of_boot};
-ghost use Rattle.stock_word.specs.declared.view.Stock.TheVariants.{NoGroup};
+ghost use Rattle.stock_word.specs.declared.stock.Stock.TheVariants.{NoGroup};
 ghost use Rattle.stock_word.specs.Stock.{HasWord};
 ghost use Rattle.group_tree.specs.declared.fault.Fault.TheVariants.{PinsFull};
-ghost use Rattle.step_rules.specs.State.{times};
-ghost use Rattle.cpu_part.specs.Cpus.{AreWithin, IsIdle, IsUnlisted, first_cpu, most_fresh, most_listed, most_pins};
+ghost use Rattle.step_rules.specs.State.{times, most_fresh, most_pins};
+ghost use Rattle.cpu_part.specs.Cpus.{AreWithin, IsIdle, IsUnlisted, first_cpu, most_listed};
 ghost use Rattle.cpu_part.specs.Calls.{DropAnswers, FastAnswers, IfGot, IfRaced, PinAnswers, UnpinAnswers};
 ghost use Rattle.cpu_part.specs.Told.{steps_of_drop, steps_of_fast, steps_of_get, steps_of_put};
 ghost use Rattle.mem_system.specs.Cpus.{KnowsItself, cpu_in_run, seat_of};
@@ -38,15 +38,15 @@ impl<N: BootName> Model for Cpu<N> {
 
     ghost view = { λ c. cpu_in_run c.part c.past };
 
-    ghost invariant = { λ c. KnowsItsPart N.frames c.past c.part };
+    ghost invariant = { λ c. KnowsItsPart N.table c.past c.part };
 }
 
 impl<N: BootName> Cpu<N> {
     // The CPU that has this seat and did nothing yet. All room that its calls need is reserved. `AllocError` if memory
     // runs out.
     pub(crate) fn new(alloc: Global, seat: CpuSeat) -> Result<Cpu<N>, AllocError>
-        requires seat { seat ≡ cpu_at_first N.frames.table seat.number }
-        requires away { IsAwayCpu N.frames seat }
+        requires seat { seat ≡ cpu_at_first N.table.table seat.number }
+        requires away { IsAwayCpu N.table seat }
         ensures { IfOk result (λ c. c ≡ cpu_in_run (first_cpu seat.number) seat) }
     {
         let part = CpuLists::<N>::new(alloc, seat.number())?;
@@ -57,7 +57,7 @@ impl<N: BootName> Cpu<N> {
     pub fn into_seat(self) -> CpuSeat
         requires { IsIdle self.part }
         ensures seat { result ≡ seat_of self }
-        ensures knows { KnowsItself N.frames self }
+        ensures knows { KnowsItself N.table self }
     {
         let Cpu { part, past } = self;
         part.end();
@@ -68,7 +68,7 @@ impl<N: BootName> Cpu<N> {
     /// first of these that holds: 32 fresh frames, an empty list, what the stock says; else the frame.
     pub fn alloc_fast(&mut self, tables: &Tables<N>, group: u32) -> Fast
         ensures answer { FastAnswers group result self.old.last self.old.part self.new.last self.new.part }
-        ensures frame { IfGot result (λ f. f < N.frames.frames) }
+        ensures frame { IfGot result (λ f. f < N.table.frames) }
         ensures run { GrewByAll (own_past self.old.past)
             (steps_of_fast self.old.part.number group result self.old.last)
             (own_past self.new.past) }
@@ -92,11 +92,11 @@ impl<N: BootName> Cpu<N> {
     /// Pins the frame if some seat has a reference on it. If pins and back frames are 256 together, that is refused
     /// with `PinsFull`, before the word is looked at. A CPU that has a pin on the frame never gets `Zero`.
     pub fn get(&mut self, tables: &Tables<N>, frame: Frame) -> Result<Get, Fault>
-        requires { frame < N.frames.frames }
+        requires { frame < N.table.frames }
         ensures answer { MatchResult result
             (λ answer. (length self.old.part.back + length self.old.part.pins < most_pins)
             × PinAnswers frame answer self.old.part self.new.part
-            × IfRaced answer (RacesAt (zone_of_boot N.frames) (own_past self.old.past) frame))
+            × IfRaced answer (RacesAt (zone_of_boot N.table) (own_past self.old.past) frame))
             (λ fault. (fault ≡ PinsFull) × (length self.old.part.back + length self.old.part.pins ≡ most_pins)
             × (self.new.part ≡ self.old.part)) }
         ensures never_zero { 1 ≤ times frame self.old.part.pins → result ≢ Ok Zero }
@@ -155,7 +155,7 @@ impl<N: BootName> Cpu<N> {
     /// A frame that is pinned, if there is one.
     pub fn first_pin(&self) -> Option<Frame>
         ensures pin { MatchOption result (self.now.part.pins ≡ []) (λ f. 1 ≤ times f self.now.part.pins) }
-        ensures frame { IfSome result (λ f. f < N.frames.frames) }
+        ensures frame { IfSome result (λ f. f < N.table.frames) }
     {
         self.part.first_pin()
     }

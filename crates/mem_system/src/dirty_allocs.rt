@@ -23,10 +23,10 @@ pub fn serve_dirty_alloc<N: BootName>(
     path: &[u8],
     order: u32,
 ) -> Outcome
-    ensures served { ServesDirtyAlloc N.frames path.entry order result (locked_state locked.old cpu.old)
+    ensures served { ServesDirtyAlloc N.table path.entry order result (locked_state locked.old cpu.old)
         (locked_state locked.new cpu.new) }
     ensures settled { IsSettled cpu.new.part }
-    ensures ends { EndsVisit N.frames (locked_state locked.old cpu.old) (locked_state locked.new cpu.new) }
+    ensures ends { EndsVisit N.table (locked_state locked.old cpu.old) (locked_state locked.new cpu.new) }
 {
     let outcome = serve_outcome(locked, tables, cpu, &LockedCommand::Alloc { path, order });
     let Outcome::Frame(frame) = outcome else {
@@ -41,7 +41,7 @@ impl<N: BootName> System<N> {
     /// Allocates a dirty unit as `serve_dirty_alloc` does, in one hold of the lock. As with `visit`, the contract says that
     /// some sound value was behind the lock, and that a sound value was left.
     pub fn alloc_dirty<R: Wait>(&self, rt: &R, cpu: &mut Cpu<N>, path: &[u8], order: u32) -> Outcome
-        ensures served { IsVisited N.frames self.now.sizes (ServesDirtyAlloc N.frames path.entry order result)
+        ensures served { IsVisited N.table self.now.sizes (ServesDirtyAlloc N.table path.entry order result)
             cpu.old cpu.new }
         ensures settled { IsSettled cpu.new.part }
     {

@@ -39,9 +39,9 @@ impl<N: BootName> Model for EmptiedBoot<N> {
 
     ghost view = { λ s. record { machine = s.machine; cpus = s.cpus.items; drops = s.drops } };
 
-    ghost invariant = { λ s. NothingIsLeft N.frames
+    ghost invariant = { λ s. NothingIsLeft N.table
         (record { machine = s.machine; cpus = s.cpus.items; drops = s.drops })
-        × IsEmptyWithRoom N.frames.cpus (length s.seats.items) (vec_capacity s.seats) };
+        × IsEmptyWithRoom N.table.cpus (length s.seats.items) (vec_capacity s.seats) };
 }
 
 impl<N: BootName> EmptiedBoot<N> {
@@ -54,7 +54,7 @@ impl<N: BootName> EmptiedBoot<N> {
 
     /// Closes the table and returns what was counted.
     pub fn close(self) -> Audit
-        ensures { Closes N.frames self result }
+        ensures { Closes N.table self result }
     {
         let EmptiedBoot {
             machine,
@@ -75,7 +75,7 @@ fn gather_seats<N: BootName>(mut cpus: Vec<Cpu<N>>, mut seats: Vec<CpuSeat>) -> 
     requires idle { All IsIdle (parts_of cpus.items) }
     requires room { IsEmptyWithRoom (length cpus.items) (length seats.items) (vec_capacity seats) }
     ensures seats { result.items ≡ map seat_of cpus.items }
-    ensures knows { AllOf (KnowsItself N.frames) cpus.items }
+    ensures knows { AllOf (KnowsItself N.table) cpus.items }
 {
     while !cpus.is_empty() {
         seats.push_reserved(cpus.remove(0).into_seat());
@@ -90,10 +90,10 @@ fn close_table<N: BootName>(
     tables: Tables<N>,
     seats: Vec<CpuSeat>,
 ) -> ClosedWords
-    requires rests { Rests N.frames machine }
-    requires seats { AllOf (HasCpuPast N.frames) seats.items }
-    requires count { length seats.items ≡ N.frames.cpus }
-    ensures { IsClosed N.frames machine seats.items result.words }
+    requires rests { Rests N.table machine }
+    requires seats { AllOf (HasCpuPast N.table) seats.items }
+    requires count { length seats.items ≡ N.table.cpus }
+    ensures { IsClosed N.table machine seats.items result }
 {
     tables.into_words().close(machine.into_past(), seats)
 }

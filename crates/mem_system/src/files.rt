@@ -16,7 +16,7 @@ use control_files::flag::read_flag;
 use control_files::limit::{Limit, read_amount, read_limit};
 use cpu_part::{BootName, Tables};
 use group_charge::charges::Charges;
-use group_charge::settings::Settings;
+use group_charge::settings::ReclaimSettings;
 use group_tree::fault::Fault;
 use group_tree::group::GroupId;
 use machine_texts::memory_stat;
@@ -61,9 +61,9 @@ fn set_limit<N: BootName>(
 )
     requires there { IsTrue (has_group machine.old.ledger.groups group) }
     requires below_root { group ≢ 0 }
-    requires held { IsHeld N.frames machine.old.run.past }
-    ensures sets { BySteps Makes N.frames (SetsLimit group limit) machine.old machine.new }
-    ensures visit { StaysVisited N.frames machine.old machine.new }
+    requires held { IsHeld N.table machine.old.run.past }
+    ensures sets { BySteps Makes N.table (SetsLimit group limit) machine.old machine.new }
+    ensures visit { StaysVisited N.table machine.old machine.new }
 {
     machine.set_max(tables, group, limit);
     if let Some(limit) = limit {
@@ -80,10 +80,10 @@ fn write_limit<N: BootName>(
 ) -> Outcome
     requires there { IsTrue (has_group machine.old.ledger.groups group) }
     requires below_root { group ≢ 0 }
-    requires held { IsHeld N.frames machine.old.run.past }
-    ensures written { ComesToAlone N.frames result (WritesTo File.Max value.now group) machine.old machine.new }
+    requires held { IsHeld N.table machine.old.run.past }
+    ensures written { ComesToAlone N.table result (WritesTo File.Max value.now group) machine.old machine.new }
     ensures groups { HasItsGroups machine.new.ledger result }
-    ensures visit { StaysVisited N.frames machine.old machine.new }
+    ensures visit { StaysVisited N.table machine.old machine.new }
 {
     match read_limit(value) {
         Ok(limit) => {
@@ -103,15 +103,15 @@ fn write_high<N: BootName>(
     value: &[u8],
 ) -> Outcome
     requires there { IsTrue (has_group machine.old.ledger.groups group) }
-    requires held { IsHeld N.frames machine.old.run.past }
-    ensures written { ComesToAlone N.frames result (WritesTo File.High value.now group) machine.old machine.new }
+    requires held { IsHeld N.table machine.old.run.past }
+    ensures written { ComesToAlone N.table result (WritesTo File.High value.now group) machine.old machine.new }
     ensures groups { HasItsGroups machine.new.ledger result }
-    ensures visit { StaysVisited N.frames machine.old machine.new }
+    ensures visit { StaysVisited N.table machine.old machine.new }
 {
     match read_limit(value) {
         Ok(high) => {
             let settings = machine.charges().settings(group);
-            machine.set_settings(group, Settings { high, ..settings });
+            machine.set_settings(group, ReclaimSettings { high, ..settings });
             lower_to_high(machine, tables, group, high);
             Outcome::Done
         }
@@ -121,14 +121,14 @@ fn write_high<N: BootName>(
 
 // Gives the group the memory.low that the value writes. The value is refused if it is no limit.
 fn write_low<N: BootName>(machine: &mut Machine<N>, group: GroupId, value: &[u8]) -> Outcome
-    ensures written { ComesToAlone N.frames result (WritesTo File.Low value.now group) machine.old machine.new }
+    ensures written { ComesToAlone N.table result (WritesTo File.Low value.now group) machine.old machine.new }
     ensures groups { HasItsGroups machine.new.ledger result }
-    ensures visit { StaysVisited N.frames machine.old machine.new }
+    ensures visit { StaysVisited N.table machine.old machine.new }
 {
     match read_limit(value) {
         Ok(low) => {
             let settings = machine.charges().settings(group);
-            machine.set_settings(group, Settings { low, ..settings });
+            machine.set_settings(group, ReclaimSettings { low, ..settings });
             Outcome::Done
         }
         Err(fault) => Outcome::Refused(fault),
@@ -137,14 +137,14 @@ fn write_low<N: BootName>(machine: &mut Machine<N>, group: GroupId, value: &[u8]
 
 // The same for memory.min.
 fn write_min<N: BootName>(machine: &mut Machine<N>, group: GroupId, value: &[u8]) -> Outcome
-    ensures written { ComesToAlone N.frames result (WritesTo File.Min value.now group) machine.old machine.new }
+    ensures written { ComesToAlone N.table result (WritesTo File.Min value.now group) machine.old machine.new }
     ensures groups { HasItsGroups machine.new.ledger result }
-    ensures visit { StaysVisited N.frames machine.old machine.new }
+    ensures visit { StaysVisited N.table machine.old machine.new }
 {
     match read_limit(value) {
         Ok(min) => {
             let settings = machine.charges().settings(group);
-            machine.set_settings(group, Settings { min, ..settings });
+            machine.set_settings(group, ReclaimSettings { min, ..settings });
             Outcome::Done
         }
         Err(fault) => Outcome::Refused(fault),
@@ -160,10 +160,10 @@ fn write_flag<N: BootName>(
 ) -> Outcome
     requires there { IsTrue (has_group machine.old.ledger.groups group) }
     requires below_root { group ≢ 0 }
-    requires held { IsHeld N.frames machine.old.run.past }
-    ensures written { ComesToAlone N.frames result (WritesTo File.OomGroup value.now group) machine.old machine.new }
+    requires held { IsHeld N.table machine.old.run.past }
+    ensures written { ComesToAlone N.table result (WritesTo File.OomGroup value.now group) machine.old machine.new }
     ensures groups { HasItsGroups machine.new.ledger result }
-    ensures visit { StaysVisited N.frames machine.old machine.new }
+    ensures visit { StaysVisited N.table machine.old machine.new }
 {
     match read_flag(value) {
         Ok(flag) => {
@@ -182,11 +182,11 @@ fn reclaim_asked<N: BootName>(
     asked: u64,
 ) -> Outcome
     requires there { IsTrue (has_group machine.old.ledger.groups group) }
-    requires held { IsHeld N.frames machine.old.run.past }
+    requires held { IsHeld N.table machine.old.run.past }
     ensures written { (value : List ℕ) → ReadsAmount value asked
-        → ComesToAlone N.frames result (WritesTo File.Reclaim value group) machine.old machine.new }
+        → ComesToAlone N.table result (WritesTo File.Reclaim value group) machine.old machine.new }
     ensures groups { HasItsGroups machine.new.ledger result }
-    ensures visit { StaysVisited N.frames machine.old machine.new }
+    ensures visit { StaysVisited N.table machine.old machine.new }
 {
     if reclaim_amount(machine, tables, group, asked) < asked {
         Outcome::Refused(Fault::Again)
@@ -203,10 +203,10 @@ fn write_reclaim<N: BootName>(
     value: &[u8],
 ) -> Outcome
     requires there { IsTrue (has_group machine.old.ledger.groups group) }
-    requires held { IsHeld N.frames machine.old.run.past }
-    ensures written { ComesToAlone N.frames result (WritesTo File.Reclaim value.now group) machine.old machine.new }
+    requires held { IsHeld N.table machine.old.run.past }
+    ensures written { ComesToAlone N.table result (WritesTo File.Reclaim value.now group) machine.old machine.new }
     ensures groups { HasItsGroups machine.new.ledger result }
-    ensures visit { StaysVisited N.frames machine.old machine.new }
+    ensures visit { StaysVisited N.table machine.old machine.new }
 {
     match read_amount(value) {
         Ok(asked) => reclaim_asked(machine, tables, group, asked),
@@ -222,10 +222,10 @@ pub(crate) fn write_file<N: BootName>(
     name: &[u8],
     value: &[u8],
 ) -> Outcome
-    requires held { IsHeld N.frames machine.old.run.past }
-    ensures written { ComesToAlone N.frames result (Writes path.now name.now value.now) machine.old machine.new }
+    requires held { IsHeld N.table machine.old.run.past }
+    ensures written { ComesToAlone N.table result (Writes path.now name.now value.now) machine.old machine.new }
     ensures groups { HasItsGroups machine.new.ledger result }
-    ensures visit { StaysVisited N.frames machine.old machine.new }
+    ensures visit { StaysVisited N.table machine.old machine.new }
 {
     let (group, file) = match find_file(machine.charges(), path, name) {
         Ok(found) => found,

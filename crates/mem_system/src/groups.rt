@@ -21,10 +21,10 @@ pub(crate) fn make_group<N: BootName>(
     tables: &Tables<N>,
     path: &[u8],
 ) -> Outcome
-    requires held { IsHeld N.frames machine.old.run.past }
-    ensures made { ComesToAlone N.frames result (MakesGroup path.now) machine.old machine.new }
+    requires held { IsHeld N.table machine.old.run.past }
+    ensures made { ComesToAlone N.table result (MakesGroup path.now) machine.old machine.new }
     ensures groups { HasItsGroups machine.new.ledger result }
-    ensures visit { StaysVisited N.frames machine.old machine.new }
+    ensures visit { StaysVisited N.table machine.old machine.new }
 {
     match machine.make(tables, path) {
         Ok(group) => Outcome::Group(group),
@@ -56,10 +56,10 @@ pub(crate) fn remove_group<N: BootName>(
     tables: &Tables<N>,
     path: &[u8],
 ) -> Outcome
-    requires held { IsHeld N.frames machine.old.run.past }
-    ensures removed { ComesToAlone N.frames result (Removes path.now) machine.old machine.new }
+    requires held { IsHeld N.table machine.old.run.past }
+    ensures removed { ComesToAlone N.table result (Removes path.now) machine.old machine.new }
     ensures groups { HasItsGroups machine.new.ledger result }
-    ensures visit { StaysVisited N.frames machine.old machine.new }
+    ensures visit { StaysVisited N.table machine.old machine.new }
 {
     let group = match find_leaf(machine.charges(), path) {
         Ok(group) => group,

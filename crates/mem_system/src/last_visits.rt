@@ -14,12 +14,12 @@ use step_rules::step::{Action, Answer};
 
 // Settles the CPU in a visit.
 fn settle_cpu<N: BootName>(machine: &mut Machine<N>, tables: &Tables<N>, cpu: &mut CpuLists<N>)
-    requires shut { IsShut N.frames machine.old cpu.old.number }
-    requires holds { Holds N.frames machine.old cpu.old }
+    requires shut { IsShut N.table machine.old cpu.old.number }
+    requires holds { Holds N.table machine.old cpu.old }
     requires no_pin { cpu.old.pins ≡ [] }
-    ensures settles { VisitDoes N.frames SettlesInVisit machine.old cpu.old machine.new cpu.new }
-    ensures shut { IsShut N.frames machine.new cpu.new.number }
-    ensures holds { Holds N.frames machine.new cpu.new }
+    ensures settles { VisitDoes N.table SettlesInVisit machine.old cpu.old machine.new cpu.new }
+    ensures shut { IsShut N.table machine.new cpu.new.number }
+    ensures holds { Holds N.table machine.new cpu.new }
     ensures settled { IsSettledUnpinned cpu.new }
 {
     machine.open(tables, cpu);
@@ -29,14 +29,14 @@ fn settle_cpu<N: BootName>(machine: &mut Machine<N>, tables: &Tables<N>, cpu: &m
 
 // Returns the list of the settled CPU to the zone and drains its stock, in a visit.
 fn empty_cpu<N: BootName>(machine: &mut Machine<N>, tables: &Tables<N>, cpu: &mut CpuLists<N>)
-    requires shut { IsShut N.frames machine.old cpu.old.number }
-    requires holds { Holds N.frames machine.old cpu.old }
+    requires shut { IsShut N.table machine.old cpu.old.number }
+    requires holds { Holds N.table machine.old cpu.old }
     requires settled { IsSettledUnpinned cpu.old }
-    ensures empties { VisitDoes N.frames Empties machine.old cpu.old machine.new cpu.new }
-    ensures shut { IsShut N.frames machine.new cpu.new.number }
-    ensures holds { Holds N.frames machine.new cpu.new }
-    ensures emptied { IsEmptied N.frames machine.new cpu.new }
-    ensures others { LendsAndFillsNone N.frames machine.old machine.new }
+    ensures empties { VisitDoes N.table Empties machine.old cpu.old machine.new cpu.new }
+    ensures shut { IsShut N.table machine.new cpu.new.number }
+    ensures holds { Holds N.table machine.new cpu.new }
+    ensures emptied { IsEmptied N.table machine.new cpu.new }
+    ensures others { LendsAndFillsNone N.table machine.old machine.new }
 {
     machine.open(tables, cpu);
     let listed = cpu.list_len() as u32;
@@ -48,11 +48,11 @@ fn empty_cpu<N: BootName>(machine: &mut Machine<N>, tables: &Tables<N>, cpu: &mu
 
 // Settles the CPU in a visit under the lock.
 fn settle_under_lock<N: BootName>(machine: &mut Machine<N>, tables: &Tables<N>, cpu: &mut Cpu<N>)
-    requires rests { Rests N.frames machine.old }
+    requires rests { Rests N.table machine.old }
     requires no_pin { cpu.old.part.pins ≡ [] }
-    ensures settles { VisitsUnderLock N.frames SettlesInVisit
+    ensures settles { VisitsUnderLock N.table SettlesInVisit
         (machine_and_cpu machine.old cpu.old) (machine_and_cpu machine.new cpu.new) }
-    ensures rests { Rests N.frames machine.new }
+    ensures rests { Rests N.table machine.new }
     ensures settled { IsSettledUnpinned cpu.new.part }
 {
     let cpu_number = cpu.number();
@@ -65,13 +65,13 @@ fn settle_under_lock<N: BootName>(machine: &mut Machine<N>, tables: &Tables<N>, 
 
 // Returns the list of the settled CPU to the zone and drains its stock, in a visit under the lock.
 fn empty_under_lock<N: BootName>(machine: &mut Machine<N>, tables: &Tables<N>, cpu: &mut Cpu<N>)
-    requires rests { Rests N.frames machine.old }
+    requires rests { Rests N.table machine.old }
     requires settled { IsSettledUnpinned cpu.old.part }
-    ensures empties { VisitsUnderLock N.frames Empties
+    ensures empties { VisitsUnderLock N.table Empties
         (machine_and_cpu machine.old cpu.old) (machine_and_cpu machine.new cpu.new) }
-    ensures rests { Rests N.frames machine.new }
-    ensures emptied { IsEmptied N.frames machine.new cpu.new.part }
-    ensures others { LendsAndFillsNone N.frames machine.old machine.new }
+    ensures rests { Rests N.table machine.new }
+    ensures emptied { IsEmptied N.table machine.new cpu.new.part }
+    ensures others { LendsAndFillsNone N.table machine.old machine.new }
 {
     let cpu_number = cpu.number();
     machine.lock(tables, &cpu.part, &mut cpu.past);
@@ -87,10 +87,10 @@ pub(crate) fn settle_all<N: BootName>(
     tables: &Tables<N>,
     cpus: &mut [Cpu<N>],
 )
-    requires rests { Rests N.frames machine.old }
+    requires rests { Rests N.table machine.old }
     requires no_pin { pins_of_all (parts_of cpus.old) ≡ 0 }
-    ensures settles { ForEachCpu (VisitsUnderLock N.frames SettlesInVisit) machine.old cpus.old machine.new cpus.new }
-    ensures rests { Rests N.frames machine.new }
+    ensures settles { ForEachCpu (VisitsUnderLock N.table SettlesInVisit) machine.old cpus.old machine.new cpus.new }
+    ensures rests { Rests N.table machine.new }
     ensures settled { All IsSettledUnpinned (parts_of cpus.new) }
 {
     for cpu in cpus.iter_mut() {
@@ -104,11 +104,11 @@ pub(crate) fn empty_all<N: BootName>(
     tables: &Tables<N>,
     cpus: &mut [Cpu<N>],
 )
-    requires rests { Rests N.frames machine.old }
+    requires rests { Rests N.table machine.old }
     requires settled { All IsSettledUnpinned (parts_of cpus.old) }
-    ensures empties { ForEachCpu (VisitsUnderLock N.frames Empties) machine.old cpus.old machine.new cpus.new }
-    ensures rests { Rests N.frames machine.new }
-    ensures emptied { All (λ cpu. IsEmptied N.frames machine.new cpu) (parts_of cpus.new) }
+    ensures empties { ForEachCpu (VisitsUnderLock N.table Empties) machine.old cpus.old machine.new cpus.new }
+    ensures rests { Rests N.table machine.new }
+    ensures emptied { All (λ cpu. IsEmptied N.table machine.new cpu) (parts_of cpus.new) }
 {
     for cpu in cpus.iter_mut() {
         empty_under_lock(machine, tables, cpu);

@@ -1,4 +1,4 @@
-//! The system: a boot's tables, the machine behind the zone's lock, a part for each CPU, and the commands that a CPU
+//! The system: a boot's table, the machine behind the zone's lock, a part for each CPU, and the commands that a CPU
 //! gives under that lock. Each command is served in a visit, as a list of steps of the rules, and no visit is open
 //! while the lock is free.
 //!
@@ -14,7 +14,7 @@ mod command;
 mod cpus;
 mod dirty_allocs;
 mod emptied_boot;
-mod ending;
+mod end_with_pins;
 mod files;
 mod gates;
 mod groups;
@@ -26,8 +26,8 @@ mod owners;
 mod puts;
 mod releases;
 mod shown;
+mod shutdown;
 mod system;
-mod system_end;
 mod texts;
 mod units;
 mod usage;
@@ -41,13 +41,13 @@ pub use command::{LockedCommand, ReplyWithText};
 pub use cpus::Cpu;
 pub use dirty_allocs::serve_dirty_alloc;
 pub use emptied_boot::EmptiedBoot;
-pub use ending::{SystemEnd, put_and_end};
+pub use end_with_pins::{SystemEnd, put_and_end};
 pub use gates::{Gate, NoGate};
 pub use lock::Locked;
 pub use outcome::Outcome;
 pub use shown::{write_own_stock, write_units_at};
+pub use shutdown::Held;
 pub use system::System;
-pub use system_end::Held;
 pub use texts::{blocks_text, show_text};
 pub use visits::{serve_frame_outcome, serve_into, serve_outcome, serve_settle};
 pub use zone_blocks::config::Config;

@@ -3,10 +3,10 @@
 ghost use Rattle.std.specs.Prelude.{◌≡◌, ◌∷◌, []};
 ghost use Rattle.group_tree.specs.Groups.{number_at};
 ghost use Rattle.group_charge.specs.Charges.{AreCharges};
+ghost use Rattle.step_rules.specs.After.{cpu_makes};
 ghost use Rattle.boot_words.specs.Pasts.{Meets};
 ghost use Rattle.step_watch.specs.Watched.{Watches};
-ghost use Rattle.mem_machine.specs.Machines.{IsConsistent, with_past, with_unit_notes, with_watch};
-ghost use Rattle.mem_machine.specs.Steps.{cpu_makes};
+ghost use Rattle.mem_machine.specs.Machines.{IsConsistent, with_past, with_detail_notes, with_watch};
 ghost use Rattle.mem_system.specs.Boots.{IsSizedAs};
 ghost use Rattle.mem_system.specs.Locked.{IsQuiet};
 ghost use Rattle.zone_blocks.specs.Config.{IsValidConfig};
@@ -39,15 +39,15 @@ impl<N: BootName> Model for Locked<N> {
 
     ghost view = { locked_of };
 
-    ghost invariant = { λ fields. IsSoundInside N.frames fields };
+    ghost invariant = { λ fields. IsSoundInside N.table fields };
 }
 
 impl<N: BootName> Locked<N> {
     /// Shows what always holds behind the lock. No visit is open, the machine rests, the sizes are in their ranges
-    /// and are those of the tables, the machine is consistent, and the groups make up a tree. It does nothing.
+    /// and are those of the table, the machine is consistent, and the groups make up a tree. It does nothing.
     pub fn prove_quiet(&self)
-        ensures quiet { IsQuiet N.frames self.now }
-        ensures consistent { IsConsistent N.frames self.now.machine }
+        ensures quiet { IsQuiet N.table self.now }
+        ensures consistent { IsConsistent N.table self.now.machine }
         ensures charges { AreCharges self.now.machine.ledger }
     {
         self.machine.prove_consistent();
@@ -59,7 +59,7 @@ impl<N: BootName> Locked<N> {
     #[inline(always)]
     pub fn set_sizes(&mut self, sizes: Config)
         requires valid { IsValidConfig sizes }
-        requires sized { IsSizedAs sizes N.frames }
+        requires sized { IsSizedAs sizes N.table }
         ensures { self.new ≡ record self.old { sizes = sizes } }
     {
         self.sizes = sizes;
@@ -69,7 +69,7 @@ impl<N: BootName> Locked<N> {
     pub fn sizes(&self) -> Config
         ensures are { result ≡ self.now.sizes }
         ensures valid { IsValidConfig result }
-        ensures sized { IsSizedAs result N.frames }
+        ensures sized { IsSizedAs result N.table }
     {
         self.sizes
     }
@@ -77,7 +77,7 @@ impl<N: BootName> Locked<N> {
     /// The machine, which is consistent.
     pub fn machine(&self) -> &Machine<N>
         ensures machine { result.now ≡ self.now.machine }
-        ensures consistent { IsConsistent N.frames self.now.machine }
+        ensures consistent { IsConsistent N.table self.now.machine }
     {
         self.machine.prove_consistent();
         &self.machine
@@ -98,10 +98,10 @@ impl<N: BootName> Locked<N> {
     }
 
     /// Notes details from now on, or no longer. Nothing else changes.
-    pub fn set_unit_notes(&mut self, is_on: bool)
-        ensures { self.new ≡ record self.old { machine = with_unit_notes self.old.machine is_on } }
+    pub fn set_detail_notes(&mut self, is_on: bool)
+        ensures { self.new ≡ record self.old { machine = with_detail_notes self.old.machine is_on } }
     {
-        self.machine.set_unit_notes(is_on);
+        self.machine.set_detail_notes(is_on);
     }
 
     /// Puts a watch into the machine. A boot does this before the first step.
@@ -136,7 +136,7 @@ impl<N: BootName> Locked<N> {
         ensures locked { self.new ≡ record self.old { machine = with_past self.old.machine self.new.machine.run.past } }
         ensures part { cpu.new.part ≡ cpu.old.part }
         ensures last { cpu.new.last ≡ cpu.old.last }
-        ensures meets { Meets N.frames self.old.machine.run.past cpu.old.past self.new.machine.run.past cpu.new.past }
+        ensures meets { Meets N.table self.old.machine.run.past cpu.old.past self.new.machine.run.past cpu.new.past }
     {
         self.machine.meet(tables, &cpu.part, &mut cpu.past);
     }

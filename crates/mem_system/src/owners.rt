@@ -14,7 +14,7 @@ pub(crate) fn report_place<N: BootName>(
     tables: &Tables<N>,
     frame: u32,
 ) -> Outcome
-    requires { frame < N.frames.frames }
+    requires { frame < N.table.frames }
     ensures place { ReportsPlace machine.now frame (reply_of machine.now.ledger result) }
     ensures groups { HasItsGroups machine.now.ledger result }
 {

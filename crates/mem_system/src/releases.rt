@@ -19,7 +19,7 @@ use zone_blocks::config::Config;
 
 // Whether the unit that the frame heads is a single frame.
 fn is_single<N: BootName>(machine: &Machine<N>, frame: Frame) -> bool
-    requires { frame < N.frames.frames }
+    requires { frame < N.table.frames }
     ensures { (unit : ChargedUnit) → frame_state_at machine.now.frame_states frame ≡ Head unit → IsTrue result
         ↔ (unit.order ≡ 0) }
 {
@@ -36,10 +36,10 @@ fn cut_list<N: BootName>(
     cpu: &mut CpuLists<N>,
     sizes: Config,
 )
-    requires visit { Visits N.frames machine.old cpu.old }
+    requires visit { Visits N.table machine.old cpu.old }
     requires sizes { IsValidConfig sizes }
-    ensures cuts { VisitDoes N.frames (CutsList sizes) machine.old cpu.old machine.new cpu.new }
-    ensures visit { Visits N.frames machine.new cpu.new }
+    ensures cuts { VisitDoes N.table (CutsList sizes) machine.old cpu.old machine.new cpu.new }
+    ensures visit { Visits N.table machine.new cpu.new }
     ensures room { length cpu.new.list < 256 }
     ensures below_high { length cpu.old.list ≤ sizes.high → length cpu.new.list < sizes.high }
 {
@@ -56,13 +56,13 @@ fn list_frame<N: BootName>(
     sizes: Config,
     frame: Frame,
 )
-    requires visit { Visits N.frames machine.old cpu.old }
+    requires visit { Visits N.table machine.old cpu.old }
     requires sizes { IsValidConfig sizes }
-    requires frame { frame < N.frames.frames }
+    requires frame { frame < N.table.frames }
     requires free { frame_state_at machine.old.frame_states frame ≡ Free }
     requires none_fresh { cpu.old.fresh ≡ [] }
-    ensures lists { VisitDoes N.frames (ListsFrame sizes frame) machine.old cpu.old machine.new cpu.new }
-    ensures stays { KeepsVisit N.frames cpu.old machine.new cpu.new }
+    ensures lists { VisitDoes N.table (ListsFrame sizes frame) machine.old cpu.old machine.new cpu.new }
+    ensures stays { KeepsVisit N.table cpu.old machine.new cpu.new }
     ensures fresh { cpu.new.fresh ≡ cpu.old.fresh }
     ensures at_most_high { ListStaysWithin sizes cpu.old cpu.new }
 {
@@ -78,13 +78,13 @@ pub(crate) fn release_frame<N: BootName>(
     sizes: Config,
     frame: u32,
 ) -> Outcome
-    requires visit { Visits N.frames machine.old cpu.old }
+    requires visit { Visits N.table machine.old cpu.old }
     requires sizes { IsValidConfig sizes }
-    requires frame { frame < N.frames.frames }
+    requires frame { frame < N.table.frames }
     requires none_fresh { cpu.old.fresh ≡ [] }
-    ensures released { ComesTo N.frames result (ReleasesFrame sizes frame) machine.old cpu.old machine.new cpu.new }
+    ensures released { ComesTo N.table result (ReleasesFrame sizes frame) machine.old cpu.old machine.new cpu.new }
     ensures groups { HasItsGroups machine.new.ledger result }
-    ensures stays { KeepsVisit N.frames cpu.old machine.new cpu.new }
+    ensures stays { KeepsVisit N.table cpu.old machine.new cpu.new }
     ensures fresh { cpu.new.fresh ≡ cpu.old.fresh }
     ensures at_most_high { ListStaysWithin sizes cpu.old cpu.new }
 {

@@ -24,9 +24,9 @@ pub fn write_own_stock<N: BootName>(
     cpu: &Cpu<N>,
     text: &mut String,
 ) -> Result<(), AllocError>
-    requires last { cpu.now.last ≡ stock_left N.frames locked.now.machine cpu.now.part.number }
+    requires last { cpu.now.last ≡ stock_left N.table locked.now.machine cpu.now.part.number }
     ensures { IfOk result (λ _. string_bytes text.new
-        ≡ string_bytes text.old ++ stock_line_text N.frames locked.now.machine cpu.now.part) }
+        ≡ string_bytes text.old ++ stock_line_text N.table locked.now.machine cpu.now.part) }
 {
     write_stock(locked.charges().tree(), &cpu.part, cpu.last_stock(), text)
 }
@@ -40,7 +40,7 @@ pub fn write_units_at<N: BootName>(
     path: &[u8],
     text: &mut String,
 ) -> Result<bool, AllocError>
-    ensures units { UnitsAt N.frames (number_at locked.old.machine.ledger.groups path.now)
+    ensures units { UnitsAt N.table (number_at locked.old.machine.ledger.groups path.now)
         ((result ≡ Ok false) × (text.new ≡ text.old))
         (λ shown. IfOk result (λ is_there. (is_there ≡ true)
         × (string_bytes text.new ≡ string_bytes text.old ++ shown)))
@@ -64,9 +64,9 @@ impl<N: BootName> System<N> {
         cpu: &mut Cpu<N>,
         text: &mut String,
     ) -> Result<(), AllocError>
-        ensures text { ReadsAfterSettling N.frames (λ settled machine.
+        ensures text { ReadsAfterSettling N.table (λ settled machine.
             (IfOk result (λ _. string_bytes text.new
-            ≡ string_bytes text.old ++ stock_line_text N.frames settled.locked.machine settled.cpu.part))
+            ≡ string_bytes text.old ++ stock_line_text N.table settled.locked.machine settled.cpu.part))
             × (machine ≡ settled.locked.machine)) cpu.old cpu.new }
         ensures settled { IsSettled cpu.new.part }
     {
@@ -89,8 +89,8 @@ impl<N: BootName> System<N> {
         path: &[u8],
         text: &mut String,
     ) -> Result<bool, AllocError>
-        ensures text { ReadsAfterSettling N.frames (λ settled machine.
-            UnitsAt N.frames (number_at settled.locked.machine.ledger.groups path.now)
+        ensures text { ReadsAfterSettling N.table (λ settled machine.
+            UnitsAt N.table (number_at settled.locked.machine.ledger.groups path.now)
             ((result ≡ Ok false) × (text.new ≡ text.old))
             (λ shown. IfOk result (λ is_there. (is_there ≡ true)
             × (string_bytes text.new ≡ string_bytes text.old ++ shown)))

@@ -1,4 +1,4 @@
-//! The system: the zone's lock, what lies behind it, and the tables that all CPUs share.
+//! The system: the zone's lock, what lies behind it, and the table that all CPUs share.
 
 ghost use Rattle.std.specs.Prelude.{◌≡◌};
 ghost use Rattle.std.specs.Sync.Mutex.{mutex_guard_value};
@@ -25,7 +25,7 @@ use zone_blocks::config::Config;
 // How often a thread tries the lock before it may sleep.
 const TRIES: u32 = 100;
 
-/// A boot that has started: the machine behind the zone's lock, its tables, and its sizes. CPUs share it by `&`.
+/// A boot that has started: the machine behind the zone's lock, its table, and its sizes. CPUs share it by `&`.
 #[derive(Drop)]
 pub struct System<N: BootName> {
     pub(crate) locked: Mutex<Locked<N>>,
@@ -40,9 +40,9 @@ impl<N: BootName> Model for System<N> {
 
     ghost Value = { KnownSystem };
 
-    ghost view = { λ s. record { frames = s.tables.words; sizes = s.sizes } };
+    ghost view = { λ s. record { table = s.tables.words; sizes = s.sizes } };
 
-    ghost invariant = { λ s. IsValidConfig s.sizes × IsSizedAs s.sizes N.frames };
+    ghost invariant = { λ s. IsValidConfig s.sizes × IsSizedAs s.sizes N.table };
 }
 
 // Waits after a try of this number, from 0: pauses 1 to 1,024 times, twice as often after each try, and gives up the
@@ -58,10 +58,10 @@ fn pause(tries: u32) {
 }
 
 impl<N: BootName> System<N> {
-    /// The system with this behind its lock and with these tables; from now on CPUs share it. Clauses speak only of its
-    /// tables and sizes, because none can look through the lock.
+    /// The system with this behind its lock and with this table; from now on CPUs share it. Clauses speak only of its
+    /// table and sizes, because none can look through the lock.
     pub fn of(locked: Locked<N>, tables: Tables<N>) -> System<N>
-        ensures frames { result.frames ≡ tables.words }
+        ensures table { result.table ≡ tables.words }
         ensures sizes { result.sizes ≡ locked.sizes }
     {
         let sizes = locked.sizes();
@@ -74,13 +74,13 @@ impl<N: BootName> System<N> {
     }
 
     /// Takes the system apart after all sharing ended: returns what lies behind the lock, as the last visit left it,
-    /// and its tables. Clauses say only what always holds behind the lock.
+    /// and its table. Clauses say only what always holds behind the lock.
     pub fn into_parts(self) -> (Locked<N>, Tables<N>)
-        ensures quiet { IsQuiet N.frames result.0 }
-        ensures consistent { IsConsistent N.frames result.0.machine }
+        ensures quiet { IsQuiet N.table result.0 }
+        ensures consistent { IsConsistent N.table result.0.machine }
         ensures charges { AreCharges result.0.machine.ledger }
         ensures sizes { result.0.sizes ≡ self.sizes }
-        ensures frames { result.1.words ≡ self.frames }
+        ensures table { result.1.words ≡ self.table }
     {
         let System {
             locked,
@@ -93,9 +93,9 @@ impl<N: BootName> System<N> {
         (locked, tables)
     }
 
-    /// The tables that N names, for the calls that take no lock.
+    /// The table that N names, for the calls that take no lock.
     pub fn tables(&self) -> &Tables<N>
-        ensures frames { result.now.words ≡ N.frames }
+        ensures table { result.now.words ≡ N.table }
     {
         &self.tables
     }
@@ -131,7 +131,7 @@ impl<N: BootName> System<N> {
     /// The group of this path; None if no group has it. It takes the lock and settles nothing. As with `visit`, the
     /// clause says that there was such a value behind the lock. The CPU makes no step, but sees the run that led to that.
     pub fn find<R: Wait>(&self, rt: &R, cpu: &mut Cpu<N>, path: &[u8]) -> Option<GroupId>
-        ensures { SeenBehindLock N.frames
+        ensures { SeenBehindLock N.table
             (λ found. result ≡ number_at found.machine.ledger.groups path.now) cpu.old cpu.new }
     {
         let mut guard = self.lock(rt);
@@ -147,8 +147,8 @@ impl<N: BootName> System<N> {
     /// value was left.
     #[inline(always)]
     pub fn visit<R: Wait>(&self, rt: &R, cpu: &mut Cpu<N>, cmd: &LockedCommand<'_>) -> ReplyWithText
-        requires { IsOfZone N.frames cmd.now }
-        ensures served { IsVisited N.frames self.now.sizes (IsServed N.frames cmd.now result) cpu.old cpu.new }
+        requires { IsOfZone N.table cmd.now }
+        ensures served { IsVisited N.table self.now.sizes (IsServed N.table cmd.now result) cpu.old cpu.new }
         ensures settled { IsSettledAfter cmd.now result cpu.new.part }
     {
         let mut reply = ReplyWithText::Done;
@@ -168,8 +168,8 @@ impl<N: BootName> System<N> {
         gate: &G,
         reply: &mut ReplyWithText,
     )
-        requires { IsOfZone N.frames cmd.now }
-        ensures served { IsVisited N.frames self.now.sizes (IsServed N.frames cmd.now reply.new) cpu.old cpu.new }
+        requires { IsOfZone N.table cmd.now }
+        ensures served { IsVisited N.table self.now.sizes (IsServed N.table cmd.now reply.new) cpu.old cpu.new }
         ensures settled { IsSettledAfter cmd.now reply.new cpu.new.part }
     {
         let mut guard = self.lock(rt);

@@ -24,10 +24,10 @@ pub fn show_text<N: BootName>(
     tables: &Tables<N>,
     cpu: &mut Cpu<N>,
 ) -> Result<Vec<u8>, AllocError>
-    ensures served { SettlesCaller N.frames (locked_state locked.old cpu.old) (locked_state locked.new cpu.new) }
+    ensures served { SettlesCaller N.table (locked_state locked.old cpu.old) (locked_state locked.new cpu.new) }
     ensures text { IfOk result (λ text. text.items ≡ show_text locked.new.machine) }
     ensures settled { IsSettled cpu.new.part }
-    ensures ends { EndsVisit N.frames (locked_state locked.old cpu.old) (locked_state locked.new cpu.new) }
+    ensures ends { EndsVisit N.table (locked_state locked.old cpu.old) (locked_state locked.new cpu.new) }
 {
     serve_settle(locked, tables, cpu);
     let mut text = String::new(alloc);
@@ -43,10 +43,10 @@ pub fn blocks_text<N: BootName>(
     tables: &Tables<N>,
     cpu: &mut Cpu<N>,
 ) -> Result<Vec<u8>, AllocError>
-    ensures served { SettlesCaller N.frames (locked_state locked.old cpu.old) (locked_state locked.new cpu.new) }
+    ensures served { SettlesCaller N.table (locked_state locked.old cpu.old) (locked_state locked.new cpu.new) }
     ensures text { IfOk result (λ text. text.items ≡ blocks_text locked.new.machine.blocks) }
     ensures settled { IsSettled cpu.new.part }
-    ensures ends { EndsVisit N.frames (locked_state locked.old cpu.old) (locked_state locked.new cpu.new) }
+    ensures ends { EndsVisit N.table (locked_state locked.old cpu.old) (locked_state locked.new cpu.new) }
 {
     serve_settle(locked, tables, cpu);
     let mut text = String::new(alloc);
@@ -63,7 +63,7 @@ impl<N: BootName> System<N> {
         alloc: Global,
         cpu: &mut Cpu<N>,
     ) -> Result<Vec<u8>, AllocError>
-        ensures text { ReadsUnderLock N.frames
+        ensures text { ReadsUnderLock N.table
             (λ machine. IfOk result (λ text. text.items ≡ show_text machine)) cpu.old cpu.new }
         ensures settled { IsSettled cpu.new.part }
     {
@@ -82,7 +82,7 @@ impl<N: BootName> System<N> {
         alloc: Global,
         cpu: &mut Cpu<N>,
     ) -> Result<Vec<u8>, AllocError>
-        ensures text { ReadsUnderLock N.frames
+        ensures text { ReadsUnderLock N.table
             (λ machine. IfOk result (λ text. text.items ≡ blocks_text machine.blocks)) cpu.old cpu.new }
         ensures settled { IsSettled cpu.new.part }
     {

@@ -18,7 +18,7 @@ pub(crate) fn find_unit<N: BootName>(
     tables: &Tables<N>,
     frame: u32,
 ) -> Option<Frame>
-    requires { frame < N.frames.frames }
+    requires { frame < N.table.frames }
     ensures found { IfSome result (λ found. IsUnitOf machine.now frame found) }
     ensures none { IfNone result (home_of machine.now.links frame ≡ None) }
 {
@@ -35,8 +35,8 @@ pub(crate) fn touch_frame<N: BootName>(
     tables: &Tables<N>,
     frame: u32,
 ) -> Outcome
-    requires { frame < N.frames.frames }
-    ensures touched { ComesToAlone N.frames result (λ reply. MakesNoStep (TouchesFrame frame reply)) machine.old machine.new }
+    requires { frame < N.table.frames }
+    ensures touched { ComesToAlone N.table result (λ reply. MakesNoStep (TouchesFrame frame reply)) machine.old machine.new }
     ensures groups { HasItsGroups machine.new.ledger result }
 {
     let Some(frame) = find_unit(machine, tables, frame) else {
@@ -55,8 +55,8 @@ pub(crate) fn note_dirt<N: BootName>(
     frame: u32,
     is_dirty: bool,
 ) -> Outcome
-    requires { frame < N.frames.frames }
-    ensures noted { ComesToAlone N.frames result (λ reply. MakesNoStep (NotesDirt frame is_dirty reply)) machine.old machine.new }
+    requires { frame < N.table.frames }
+    ensures noted { ComesToAlone N.table result (λ reply. MakesNoStep (NotesDirt frame is_dirty reply)) machine.old machine.new }
     ensures groups { HasItsGroups machine.new.ledger result }
 {
     let Some(frame) = find_unit(machine, tables, frame) else {

@@ -23,9 +23,9 @@ pub(crate) fn lower_usage<N: BootName>(
     limit: u32,
 )
     requires there { IsTrue (has_group machine.old.ledger.groups group) }
-    requires held { IsHeld N.frames machine.old.run.past }
-    ensures lowers { BySteps Makes N.frames (LowersUsage group limit) machine.old machine.new }
-    ensures visit { StaysVisited N.frames machine.old machine.new }
+    requires held { IsHeld N.table machine.old.run.past }
+    ensures lowers { BySteps Makes N.table (LowersUsage group limit) machine.old machine.new }
+    ensures visit { StaysVisited N.table machine.old machine.new }
 {
     machine.drain_stocks(tables, group);
     reclaim_to_limit(machine, tables, group, 0, limit);
@@ -40,9 +40,9 @@ pub(crate) fn lower_to_high<N: BootName>(
     high: Limit,
 )
     requires there { IsTrue (has_group machine.old.ledger.groups group) }
-    requires held { IsHeld N.frames machine.old.run.past }
-    ensures lowers { BySteps Makes N.frames (LowersToHigh group high) machine.old machine.new }
-    ensures visit { StaysVisited N.frames machine.old machine.new }
+    requires held { IsHeld N.table machine.old.run.past }
+    ensures lowers { BySteps Makes N.table (LowersToHigh group high) machine.old machine.new }
+    ensures visit { StaysVisited N.table machine.old machine.new }
 {
     let Some(high) = high else {
         return;
@@ -68,9 +68,9 @@ pub(crate) fn keep_to_limit<N: BootName>(
     limit: u32,
 )
     requires there { IsTrue (has_group machine.old.ledger.groups group) }
-    requires held { IsHeld N.frames machine.old.run.past }
-    ensures lowers { BySteps Makes N.frames (LowersAbove group limit) machine.old machine.new }
-    ensures visit { StaysVisited N.frames machine.old machine.new }
+    requires held { IsHeld N.table machine.old.run.past }
+    ensures lowers { BySteps Makes N.table (LowersAbove group limit) machine.old machine.new }
+    ensures visit { StaysVisited N.table machine.old machine.new }
 {
     if limit < machine.current(group) {
         note_limit(machine, group, 0);

@@ -31,13 +31,13 @@ pub fn serve_outcome<N: BootName>(
     cpu: &mut Cpu<N>,
     cmd: &LockedCommand<'_>,
 ) -> Outcome
-    requires { IsOfZone N.frames cmd.now }
-    ensures served { ServesOutcome N.frames cmd.now result (locked_state locked.old cpu.old)
+    requires { IsOfZone N.table cmd.now }
+    ensures served { ServesOutcome N.table cmd.now result (locked_state locked.old cpu.old)
         (locked_state locked.new cpu.new) }
     ensures groups { HasItsGroups locked.new.machine.ledger result }
     ensures settled { IsSettledAfter cmd.now (reply_of locked.new.machine.ledger result) cpu.new.part }
-    ensures ends { EndsVisit N.frames (locked_state locked.old cpu.old) (locked_state locked.new cpu.new) }
-    ensures lost { LosesNoUnit N.frames locked.new.machine }
+    ensures ends { EndsVisit N.table (locked_state locked.old cpu.old) (locked_state locked.new cpu.new) }
+    ensures lost { LosesNoUnit N.table locked.new.machine }
 {
     locked.machine.lock(tables, &cpu.part, &mut cpu.past);
     locked.machine.forget_notes();
@@ -66,11 +66,11 @@ pub fn serve_into<N: BootName>(
     cmd: &LockedCommand<'_>,
     reply: &mut ReplyWithText,
 )
-    requires { IsOfZone N.frames cmd.now }
-    ensures served { IsServed N.frames cmd.now reply.new (locked_state locked.old cpu.old)
+    requires { IsOfZone N.table cmd.now }
+    ensures served { IsServed N.table cmd.now reply.new (locked_state locked.old cpu.old)
         (locked_state locked.new cpu.new) }
     ensures settled { IsSettledAfter cmd.now reply.new cpu.new.part }
-    ensures ends { EndsVisit N.frames (locked_state locked.old cpu.old) (locked_state locked.new cpu.new) }
+    ensures ends { EndsVisit N.table (locked_state locked.old cpu.old) (locked_state locked.new cpu.new) }
 {
     let outcome = serve_outcome(locked, tables, cpu, cmd);
     set_reply(locked.charges(), outcome, reply);
@@ -86,13 +86,13 @@ pub fn serve_frame_outcome<N: BootName>(
     group: GroupId,
 ) -> Outcome
     requires there { IsTrue (has_group locked.old.machine.ledger.groups group) }
-    ensures served { ServesFrameOutcome N.frames group result (locked_state locked.old cpu.old)
+    ensures served { ServesFrameOutcome N.table group result (locked_state locked.old cpu.old)
         (locked_state locked.new cpu.new) }
     ensures groups { HasItsGroups locked.new.machine.ledger result }
     ensures fresh { FreshOf (reply_of locked.new.machine.ledger result) 0 cpu.new.part.fresh }
     ensures back { cpu.new.part.back ≡ [] }
-    ensures ends { EndsVisit N.frames (locked_state locked.old cpu.old) (locked_state locked.new cpu.new) }
-    ensures lost { LosesNoUnit N.frames locked.new.machine }
+    ensures ends { EndsVisit N.table (locked_state locked.old cpu.old) (locked_state locked.new cpu.new) }
+    ensures lost { LosesNoUnit N.table locked.new.machine }
 {
     let sizes = locked.sizes;
     let machine = &mut locked.machine;
@@ -109,9 +109,9 @@ pub fn serve_frame_outcome<N: BootName>(
 
 /// Serves `Settle`: settles the CPU, and does nothing else.
 pub fn serve_settle<N: BootName>(locked: &mut Locked<N>, tables: &Tables<N>, cpu: &mut Cpu<N>)
-    ensures served { SettlesCaller N.frames (locked_state locked.old cpu.old) (locked_state locked.new cpu.new) }
+    ensures served { SettlesCaller N.table (locked_state locked.old cpu.old) (locked_state locked.new cpu.new) }
     ensures settled { IsSettled cpu.new.part }
-    ensures ends { EndsVisit N.frames (locked_state locked.old cpu.old) (locked_state locked.new cpu.new) }
+    ensures ends { EndsVisit N.table (locked_state locked.old cpu.old) (locked_state locked.new cpu.new) }
 {
     let _done = serve_outcome(locked, tables, cpu, &LockedCommand::Settle);
 }

@@ -3,13 +3,13 @@ use Rattle.std.proofs.Common.{◌≡◌, ℕ, List, Bor, refl}
 use Rattle.script_lines.specs.Verb.{Alone, Arguments, Frame, Group, Path, PathFile, PathFileValue, PathOrder, form_of_verb, its_verb, words_of_command}
 use Rattle.script_lines.specs.declared.line.Command.{Command}
 use Rattle.script_lines.specs.declared.line.Command.TheVariants as command
-use Rattle.script_lines.specs.declared.verb.Form.{Form}
-use Rattle.script_lines.specs.declared.verb.Form.TheVariants as form
+use Rattle.script_lines.specs.declared.verb.ArgumentForm.{ArgumentForm}
+use Rattle.script_lines.specs.declared.verb.ArgumentForm.TheVariants as form
 use Rattle.script_lines.specs.declared.verb.Verb.{Verb}
 use Rattle.script_lines.specs.declared.verb.Verb.TheVariants.{Mkdir, Rmdir, Write, Read, Alloc, Fast, Release, Get, Put, Settle}
 use Rattle.script_lines.specs.declared.verb.Verb.TheVariants.{OnFrame, Blocks, Show, Stock, Units}
 
-abbrev pub form_of : Arguments → Form
+abbrev pub form_of : Arguments → ArgumentForm
 form_of Alone = form.Alone
 form_of (Path path) = form.Path
 form_of (PathFile path file) = form.PathFile

@@ -10,7 +10,7 @@ use Rattle.script_lines.specs.declared.line.Line.{Line}
 use Rattle.script_lines.specs.declared.line.Line.TheVariants.{Go, At}
 use Rattle.script_lines.specs.declared.line.Command.{Command}
 use Rattle.script_lines.specs.Verb.{Alone, Arguments, IsArguments, IsNameWith, form_of_verb, its_verb, name_of_verb, words_of_command}
-use Rattle.script_lines.specs.declared.verb.Form.TheVariants as form
+use Rattle.script_lines.specs.declared.verb.ArgumentForm.TheVariants as form
 use Rattle.script_lines.specs.declared.verb.Verb.{Verb}
 use Rattle.script_lines.proofs.Forms.{form_of, its_form}
 use Rattle.script_lines.proofs.Verbs.{name_no_space, same_verb}

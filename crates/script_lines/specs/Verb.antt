@@ -10,8 +10,8 @@ use Rattle.script_lines.specs.declared.line.Command.{Command}
 use Rattle.script_lines.specs.declared.line.Command.TheVariants as command
 use Rattle.script_lines.specs.declared.line.FrameAct.{FrameAct}
 use Rattle.script_lines.specs.declared.line.FrameAct.TheVariants.{Touch, Dirty, Clean, Owner}
-use Rattle.script_lines.specs.declared.verb.Form.{Form}
-use Rattle.script_lines.specs.declared.verb.Form.TheVariants as form
+use Rattle.script_lines.specs.declared.verb.ArgumentForm.{ArgumentForm}
+use Rattle.script_lines.specs.declared.verb.ArgumentForm.TheVariants as form
 use Rattle.script_lines.specs.declared.verb.Name.{Name}
 use Rattle.script_lines.specs.declared.verb.Verb.{Verb}
 use Rattle.script_lines.specs.declared.verb.Verb.TheVariants.{Mkdir, Rmdir, Write, Read, Alloc, Fast, Release, Get, Put}
@@ -28,7 +28,7 @@ all_verbs =
 -- the name of a command, as a script writes it, and what follows it
 pub record VerbRow : Type 0 where
   pub name : List ℕ
-  pub form : Form
+  pub form : ArgumentForm
 
 -- the name of an act on a frame
 abbrev pub act_name : FrameAct → List ℕ
@@ -60,7 +60,7 @@ abbrev pub name_of_verb : Verb → List ℕ
 name_of_verb verb = (row_of_verb verb).name
 
 -- what follows the name of a command
-abbrev pub form_of_verb : Verb → Form
+abbrev pub form_of_verb : Verb → ArgumentForm
 form_of_verb verb = (row_of_verb verb).form
 
 -- ---- what follows a name

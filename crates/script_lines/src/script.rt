@@ -16,7 +16,7 @@ use crate::fault::ScriptFault;
 use crate::line::{Command, Line};
 use crate::number::{first_number, number};
 use crate::place::{near_place, path_end, place_by_one};
-use crate::verb::{Form, Names, Verb, command_names, first_verb};
+use crate::verb::{ArgumentForm, Names, Verb, command_names, first_verb};
 use group_tree::group::MAX_GROUPS;
 use std::alloc::{AllocFailed, Global};
 use zone_blocks::config::Config;
@@ -323,7 +323,7 @@ fn parse_arguments<'a>(
 // The command about this frame. None for a command that names no frame.
 #[inline(always)]
 fn on_frame<'a>(verb: Verb, frame: u32) -> Option<Command<'a>>
-    ensures { MatchOption result (form_of_verb verb ≢ Form.Frame) (λ command. words_of_command command ≡ (verb, Frame frame)) }
+    ensures { MatchOption result (form_of_verb verb ≢ ArgumentForm.Frame) (λ command. words_of_command command ≡ (verb, Frame frame)) }
 {
     match verb {
         Verb::Release => Some(Command::Release { frame }),

@@ -45,7 +45,7 @@ pub enum Verb {
 
 /// What follows the name of a command.
 #[derive(Clone, Copy, PartialEq, Eq)]
-pub enum Form {
+pub enum ArgumentForm {
     /// Nothing, not even a space.
     Alone,
     /// The path of a group.
@@ -86,29 +86,29 @@ impl Verb {
     ];
 
     // The table of commands: the name of each, and what follows it.
-    fn row(self) -> (&'static str, Form)
+    fn row(self) -> (&'static str, ArgumentForm)
         ensures name { result.0.now ≡ name_of_verb self }
         ensures form { result.1 ≡ form_of_verb self }
     {
         match self {
-            Verb::Mkdir => ("mkdir", Form::Path),
-            Verb::Rmdir => ("rmdir", Form::Path),
-            Verb::Write => ("write", Form::PathFileValue),
-            Verb::Read => ("read", Form::PathFile),
-            Verb::Alloc => ("alloc", Form::PathOrder),
-            Verb::Fast => ("fast", Form::Group),
-            Verb::Release => ("release", Form::Frame),
-            Verb::Get => ("get", Form::Frame),
-            Verb::Put => ("put", Form::Frame),
-            Verb::Settle => ("settle", Form::Alone),
-            Verb::OnFrame(FrameAct::Touch) => ("touch", Form::Frame),
-            Verb::OnFrame(FrameAct::Dirty) => ("dirty", Form::Frame),
-            Verb::OnFrame(FrameAct::Clean) => ("clean", Form::Frame),
-            Verb::OnFrame(FrameAct::Owner) => ("owner", Form::Frame),
-            Verb::Blocks => ("blocks", Form::Alone),
-            Verb::Show => ("show", Form::Alone),
-            Verb::Stock => ("stock", Form::Alone),
-            Verb::Units => ("units", Form::Path),
+            Verb::Mkdir => ("mkdir", ArgumentForm::Path),
+            Verb::Rmdir => ("rmdir", ArgumentForm::Path),
+            Verb::Write => ("write", ArgumentForm::PathFileValue),
+            Verb::Read => ("read", ArgumentForm::PathFile),
+            Verb::Alloc => ("alloc", ArgumentForm::PathOrder),
+            Verb::Fast => ("fast", ArgumentForm::Group),
+            Verb::Release => ("release", ArgumentForm::Frame),
+            Verb::Get => ("get", ArgumentForm::Frame),
+            Verb::Put => ("put", ArgumentForm::Frame),
+            Verb::Settle => ("settle", ArgumentForm::Alone),
+            Verb::OnFrame(FrameAct::Touch) => ("touch", ArgumentForm::Frame),
+            Verb::OnFrame(FrameAct::Dirty) => ("dirty", ArgumentForm::Frame),
+            Verb::OnFrame(FrameAct::Clean) => ("clean", ArgumentForm::Frame),
+            Verb::OnFrame(FrameAct::Owner) => ("owner", ArgumentForm::Frame),
+            Verb::Blocks => ("blocks", ArgumentForm::Alone),
+            Verb::Show => ("show", ArgumentForm::Alone),
+            Verb::Stock => ("stock", ArgumentForm::Alone),
+            Verb::Units => ("units", ArgumentForm::Path),
         }
     }
 
@@ -120,7 +120,7 @@ impl Verb {
     }
 
     /// What follows the name.
-    pub fn form(self) -> Form
+    pub fn form(self) -> ArgumentForm
         ensures { result ≡ form_of_verb self }
     {
         self.row().1

@@ -17,8 +17,8 @@ use Rattle.script_lines.specs.declared.line.Command.{Command}
 use Rattle.script_lines.specs.declared.line.Line.{Line}
 use Rattle.script_lines.specs.declared.line.Line.TheVariants.{At, Go}
 use Rattle.script_lines.specs.declared.line.Command.TheVariants as command
-use Rattle.script_lines.specs.declared.verb.Form.{Form}
-use Rattle.script_lines.specs.declared.verb.Form.TheVariants as form
+use Rattle.script_lines.specs.declared.verb.ArgumentForm.{ArgumentForm}
+use Rattle.script_lines.specs.declared.verb.ArgumentForm.TheVariants as form
 use Rattle.script_lines.specs.declared.verb.Verb.{Verb}
 use Rattle.script_lines.specs.declared.verb.Verb.TheVariants.{Mkdir}
 use Rattle.script_lines.proofs.Cuts.{cut_once, digits_no_space, no_cut}
@@ -117,7 +117,7 @@ number_more (b ∷ bs) rest n is =
 -- ---- what follows the name of a command
 
 -- the text says some arguments of this form
-abbrev SaysArguments : Config → Form → List ℕ → Type 0
+abbrev SaysArguments : Config → ArgumentForm → List ℕ → Type 0
 SaysArguments sizes f t = (arguments : Arguments) × (form_of arguments ≡ f) × IsArguments sizes arguments t
 
 -- one of the ends makes it so
@@ -265,7 +265,7 @@ command_from sizes v r says =
     (command.0, is_command sizes (name_of_verb v ++ 32 ∷ r) r v cut command.0 (ap (λ (w : Verb × Arguments). w.0) command.1) has)
 
 -- every name with its example is one
-example_is : (sizes : Config) → HasValidCounts sizes → (v : Verb) (f : Form) → form_of_verb v ≡ f → IsCommand sizes (name_of_verb v ++ example_text f)
+example_is : (sizes : Config) → HasValidCounts sizes → (v : Verb) (f : ArgumentForm) → form_of_verb v ≡ f → IsCommand sizes (name_of_verb v ++ example_text f)
 example_is sizes counts v form.Alone e =
     let command = made v Alone (sym e) in
     (command.0, subst (λ (w : Verb × Arguments). IsNameWith sizes (name_of_verb w.0) w.1 (name_of_verb v ++ [])) (sym command.1) (append-nil (name_of_verb v)))

@@ -4,8 +4,8 @@ use Rattle.std.specs.Prelude.{if◌then◌else◌, drop, is_some, nat_lt, slice_
 use Rattle.std.specs.List.{find}
 use Rattle.std.specs.Str.{bytes_eq}
 use Rattle.script_lines.specs.{is_go, all_verbs, form_of_verb, name_of_verb}
-use Rattle.script_lines.specs.declared.verb.Form.{Form}
-use Rattle.script_lines.specs.declared.verb.Form.TheVariants.{Group, PathOrder}
+use Rattle.script_lines.specs.declared.verb.ArgumentForm.{ArgumentForm}
+use Rattle.script_lines.specs.declared.verb.ArgumentForm.TheVariants.{Group, PathOrder}
 use Rattle.script_lines.specs.declared.verb.Verb.{Verb}
 use Rattle.script_lint.specs.declared.finding.Cause.{Cause}
 use Rattle.script_lint.specs.declared.finding.Cause.TheVariants.{ByteOrderMark, WideText, Gzip, LateComment, NoCpu, CpuOutOfRange, UnknownCommand}
@@ -133,12 +133,12 @@ abbrev pub verb_of : List ℕ → Option Verb
 verb_of text = verb_named (word_behind 1 text)
 
 -- a path and an order
-abbrev pub is_order : Form → Bool
+abbrev pub is_order : ArgumentForm → Bool
 is_order PathOrder = true
 is_order other = false
 
 -- the number of a group
-abbrev pub is_group : Form → Bool
+abbrev pub is_group : ArgumentForm → Bool
 is_group Group = true
 is_group other = false
 

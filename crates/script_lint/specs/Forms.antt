@@ -1,12 +1,12 @@
 -- What a line has to be.
 use Rattle.std.specs.Prelude.{ℕ, Option, None, Some, List, ◌++◌, codes}
 use Rattle.script_lines.specs.Verb.{form_of_verb, name_of_verb}
-use Rattle.script_lines.specs.declared.verb.Form.{Form}
-use Rattle.script_lines.specs.declared.verb.Form.TheVariants.{Alone, Path, PathFile, PathFileValue, PathOrder, Group, Frame}
+use Rattle.script_lines.specs.declared.verb.ArgumentForm.{ArgumentForm}
+use Rattle.script_lines.specs.declared.verb.ArgumentForm.TheVariants.{Alone, Path, PathFile, PathFileValue, PathOrder, Group, Frame}
 use Rattle.script_lines.specs.declared.verb.Verb.{Verb}
 
 -- the words after the name of a command of this form
-abbrev pub words_text : Form → List ℕ
+abbrev pub words_text : ArgumentForm → List ℕ
 words_text Alone = codes ""
 words_text Path = codes " PATH"
 words_text PathFile = codes " PATH FILE"

@@ -8,7 +8,7 @@ ghost use Rattle.script_lint.specs.Lines.{GoesOn, HasValidCounts, IsGoodText};
 
 use script_lines::line::Line;
 use script_lines::script::{first_word, is_skipped, parse_line};
-use script_lines::verb::{Form, Names, Verb};
+use script_lines::verb::{ArgumentForm, Names, Verb};
 use std::alloc::AllocError;
 use zone_blocks::config::Config;
 
@@ -18,16 +18,16 @@ const ENDS: [&str; 10] = [
 ];
 
 // What may follow the name of a command of this form.
-fn example(form: Form) -> &'static str
+fn example(form: ArgumentForm) -> &'static str
     ensures { result.now ≡ example_text form }
 {
     match form {
-        Form::Alone => "",
-        Form::Path => " /",
-        Form::PathFile => " / /",
-        Form::PathFileValue => " / / ",
-        Form::PathOrder => " / 0",
-        Form::Group | Form::Frame => " 0",
+        ArgumentForm::Alone => "",
+        ArgumentForm::Path => " /",
+        ArgumentForm::PathFile => " / /",
+        ArgumentForm::PathFileValue => " / / ",
+        ArgumentForm::PathOrder => " / 0",
+        ArgumentForm::Group | ArgumentForm::Frame => " 0",
     }
 }
 

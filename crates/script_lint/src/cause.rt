@@ -12,7 +12,7 @@ ghost use Rattle.script_lint.specs.Causes.{is_blank, is_byte_order_mark, is_gzip
 
 use crate::finding::Cause;
 use script_lines::script::{first_word, is_go};
-use script_lines::verb::{Form, Verb};
+use script_lines::verb::{ArgumentForm, Verb};
 
 // The first cause that holds at this place.
 pub(crate) fn cause_of(text: &[u8], place: usize) -> Cause
@@ -283,14 +283,14 @@ pub(crate) fn verb_of(text: &[u8]) -> Option<Verb>
 fn takes_order(text: &[u8]) -> bool
     ensures { result ≡ takes_order (verb_of text.now) }
 {
-    verb_of(text).is_some_and(|verb| verb.form() == Form::PathOrder)
+    verb_of(text).is_some_and(|verb| verb.form() == ArgumentForm::PathOrder)
 }
 
 // Whether the line's command names a group by its number.
 fn takes_group(text: &[u8]) -> bool
     ensures { result ≡ takes_group (verb_of text.now) }
 {
-    verb_of(text).is_some_and(|verb| verb.form() == Form::Group)
+    verb_of(text).is_some_and(|verb| verb.form() == ArgumentForm::Group)
 }
 
 // Whether an argument is no number of 32 bits.

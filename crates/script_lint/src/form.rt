@@ -6,7 +6,7 @@ ghost use Rattle.script_lint.specs.Causes.{verb_of};
 ghost use Rattle.script_lint.specs.Forms.{form_text_of, words_text};
 
 use crate::cause::verb_of;
-use script_lines::verb::Form;
+use script_lines::verb::ArgumentForm;
 use std::alloc::AllocError;
 
 // Adds the form of the line's command, or of a line if none has the second word as its name.
@@ -23,16 +23,16 @@ pub(crate) fn write_form(line: &[u8], text: &mut String) -> Result<(), AllocErro
 }
 
 // The words after the name of a command of this form.
-fn words_text(form: Form) -> &'static str
+fn words_text(form: ArgumentForm) -> &'static str
     ensures { result.now ≡ words_text form }
 {
     match form {
-        Form::Alone => "",
-        Form::Path => " PATH",
-        Form::PathFile => " PATH FILE",
-        Form::PathFileValue => " PATH FILE VALUE",
-        Form::PathOrder => " PATH ORDER",
-        Form::Group => " GROUP",
-        Form::Frame => " FRAME",
+        ArgumentForm::Alone => "",
+        ArgumentForm::Path => " PATH",
+        ArgumentForm::PathFile => " PATH FILE",
+        ArgumentForm::PathFileValue => " PATH FILE VALUE",
+        ArgumentForm::PathOrder => " PATH ORDER",
+        ArgumentForm::Group => " GROUP",
+        ArgumentForm::Frame => " FRAME",
     }
 }

@@ -4,13 +4,12 @@ use Rattle.std.specs.Prelude.{slice_set}
 use Rattle.std.specs.List.{slice_get}
 use Rattle.std.proofs.lemmas.List.{append-nil, length-set}
 use Rattle.frame_word.specs.declared.answers.Get.TheVariants.{Held}
-use Rattle.frame_word.specs.Seats.{KnownTable}
-use Rattle.stock_word.specs.declared.view.Stock.{Stock}
+use Rattle.stock_word.specs.declared.stock.Stock.{Stock}
 use Rattle.group_charge.specs.Charges.{Ledger}
 use Rattle.group_tree.specs.declared.fault.Fault.TheVariants.{NoGroup, PinsFull, NotPinned}
 use Rattle.cpu_part.specs.declared.answers.Fast.{Fast as FastAnswer}
 use Rattle.cpu_part.specs.declared.answers.Fast.TheVariants.{FreshFull, ListEmpty, OtherGroup, Drained, NoStock, Got}
-use Rattle.cpu_part.specs.{KnownCpu, FastAnswers}
+use Rattle.cpu_part.specs.{KnownCpuLists, FastAnswers}
 use Rattle.step_rules.specs.declared.phase.Hold.{Hold}
 use Rattle.step_rules.specs.declared.phase.Hold.TheVariants.{HeldBy, Unheld}
 use Rattle.step_rules.specs.declared.step.Action.{Action}
@@ -18,11 +17,10 @@ use Rattle.step_rules.specs.declared.step.Action.TheVariants as step
 use Rattle.step_rules.specs.declared.step.Answer.{Answer as StepAnswer}
 use Rattle.step_rules.specs.declared.step.Answer.TheVariants as step_answer
 use Rattle.step_rules.specs.State.{State}
-use Rattle.step_rules.specs.After.{Run, state_of, IsLegalRun}
+use Rattle.step_rules.specs.After.{Run, state_of, IsLegalRun, cpu_makes}
 use Rattle.step_watch.specs.Watched.{KnownWatch}
-use Rattle.boot_words.specs.{own_past, IsFast}
-use Rattle.mem_machine.specs.{VisitState, visit_state, KnownMachine, left_by, with_run, with_watch, zone_of, AgreesWithRun}
-use Rattle.mem_machine.specs.Steps.{cpu_makes}
+use Rattle.boot_words.specs.{own_past, IsFast, zone_of_boot, KnownTable}
+use Rattle.mem_machine.specs.{VisitState, visit_state, KnownMachine, left_by, with_run, with_watch, AgreesWithRun}
 use Rattle.mem_machine.proofs.Locks.{unlocked_found}
 use Rattle.mem_history.specs.{GoesOnTo, HasTakenLock, IsOwnStep, LeaveTheSame, ShowsAll, under_lock, IsPart, put_answer}
 use Rattle.mem_history.proofs.Wholes.{lines_follow, parts_after, the_same_is_shown}
@@ -38,13 +36,13 @@ use Rattle.reply_texts.specs.declared.steps.UnlockedAnswer.{UnlockedAnswer}
 use Rattle.reply_texts.specs.declared.steps.UnlockedAnswer.TheVariants as unlocked
 use Rattle.script_lines.specs.declared.line.Command.{Command}
 use Rattle.script_lines.specs.declared.line.Command.TheVariants as command
-use Rattle.script_replay.specs.Answers.{AnswersAlone, AnswersCommand, AnswersUnlocked, CanNotList, IsServedUnderLock, IsTriedInVain, OnlySaw, OnlyWatched}
-use Rattle.script_replay.specs.Answers.{steps_alone}
+use Rattle.script_replay.specs.Answers.{AnswersUnlocked, AnswersCommand, ServesUnlocked, CanNotList, IsServedUnderLock, IsTriedInVain, OnlySaw, OnlyWatched}
+use Rattle.script_replay.specs.Answers.{steps_unlocked}
 use Rattle.script_replay.proofs.Gaining.{saw_none}
 
 -- ---- what is tried in vain
 
-fast_same : (g : ℕ) (answer : FastAnswer) (last : Stock) (c : KnownCpu) (last' : Stock) (d : KnownCpu) → FastAnswers g answer last c last' d
+fast_same : (g : ℕ) (answer : FastAnswer) (last : Stock) (c : KnownCpuLists) (last' : Stock) (d : KnownCpuLists) → FastAnswers g answer last c last' d
     → ((f : ℕ) → answer ≢ Got f) → d ≡ c
 fast_same g FreshFull last c last' d is none = is.1.1
 fast_same g ListEmpty last c last' d is none = is.2.1
@@ -76,7 +74,7 @@ leave_same : (t : KnownTable) (m n : KnownMachine) → left_by t n.run.past ≡ 
 leave_same t m n left = held_same (left_by t n.run.past) (left_by t m.run.past) (left_by t m.run.past).hold left
 
 -- the run that shows a machine shows it with another watch too
-pub shows_watched : (t : KnownTable) (run : Run) (m : KnownMachine) (cpus : List KnownCpu) (watch : KnownWatch) → ShowsAll t run m cpus
+pub shows_watched : (t : KnownTable) (run : Run) (m : KnownMachine) (cpus : List KnownCpuLists) (watch : KnownWatch) → ShowsAll t run m cpus
     → ShowsAll t run (with_watch m watch) cpus
 shows_watched t run m cpus watch shows = the_same_is_shown t run m (with_watch m watch) cpus shows (leave_same t m (with_watch m watch) refl)
 
@@ -86,7 +84,7 @@ not_watched t before after same = subst (OnlySaw t [] before) (sym same) (saw_no
 
 -- ---- one part of the whole
 
-module _ (t : KnownTable) (run : Run) (locked : KnownLocked) (cpus : List KnownCpu) (k : ℕ) (c : CpuInRun)
+module _ (t : KnownTable) (run : Run) (locked : KnownLocked) (cpus : List KnownCpuLists) (k : ℕ) (c : CpuInRun)
     (shows : ShowsAll t run locked.machine cpus) (is_part : slice_get cpus k ≡ Some c.part) where
   abbrev m : KnownMachine
   m = locked.machine
@@ -103,7 +101,7 @@ module _ (t : KnownTable) (run : Run) (locked : KnownLocked) (cpus : List KnownC
 
   -- the run that goes on with these steps is legal
   abbrev IsLegalOn : Run → Type 0
-  IsLegalOn steps = IsLegalRun (zone_of t) (run ++ steps)
+  IsLegalOn steps = IsLegalRun (zone_of_boot t) (run ++ steps)
 
   -- nothing that is seen changed
   unseen_follows : (after : LockedState) → OnlySaw t [] locked after.locked → after.cpu.part ≡ c.part → Follows [] after
@@ -116,9 +114,9 @@ module _ (t : KnownTable) (run : Run) (locked : KnownLocked) (cpus : List KnownC
         free = here.free;
         left = here.left;
         count = length-set cpus k c.part ∙ here.count;
-        each = parts_after (state_of (zone_of t) run) cpus k c.part c.part is_part was.number was.own (λ j e at ne. shows.each j e at);
+        each = parts_after (state_of (zone_of_boot t) run) cpus k c.part c.part is_part was.number was.own (λ j e at ne. shows.each j e at);
       } in record {
-        shows = subst (λ (x : Run × KnownCpu). ShowsAll t x.0 n (slice_set cpus k x.1)) (λ i. (sym (append-nil run) i, sym same i)) still;
+        shows = subst (λ (x : Run × KnownCpuLists). ShowsAll t x.0 n (slice_set cpus k x.1)) (λ i. (sym (append-nil run) i, sym same i)) still;
         agrees = λ told. subst (λ (x : Run × Ledger). AgreesWithRun t x.0 x.1)
             (λ i. (sym (append-nil run) i, ap (λ (l : KnownLocked). l.machine.ledger) (sym kept.locked) i)) told;
       }
@@ -157,7 +155,7 @@ module _ (t : KnownTable) (run : Run) (locked : KnownLocked) (cpus : List KnownC
 
   -- a step without the lock
   step_follows : (action : Action) (answer : StepAnswer) (after : LockedState) → OnlySaw t (cpu_makes p action answer ∷ []) locked after.locked
-      → IsFast action → IsOwnStep (state_of (zone_of t) run) c.part action answer after.cpu.part
+      → IsFast action → IsOwnStep (state_of (zone_of_boot t) run) c.part action answer after.cpu.part
       → IsLegalOn (cpu_makes p action answer ∷ []) → Follows (cpu_makes p action answer ∷ []) after
   step_follows action answer after kept fast leads legal =
       let to : VisitState = visit_state after.locked.machine after.cpu.part in
@@ -184,33 +182,33 @@ module _ (t : KnownTable) (run : Run) (locked : KnownLocked) (cpus : List KnownC
       (fast_calls_lead.got t run m cpus k c.part after.cpu.part this_part g f c.last after.cpu.last is) legal
 
   -- without the lock
-  alone_follows : (command : Command) (said : UnlockedAnswer) (after : LockedState) → AnswersAlone command c after.cpu said
-      → OnlySaw t (steps_alone p command said) locked after.locked → IsLegalOn (steps_alone p command said) → Follows (steps_alone p command said) after
-  alone_follows (command.Fast g) (unlocked.Fast (Got f)) after is kept legal = got_follows g f after is kept legal
-  alone_follows (command.Fast g) (unlocked.Fast fast) after is kept legal =
+  unlocked_follows : (command : Command) (said : UnlockedAnswer) (after : LockedState) → AnswersUnlocked command c after.cpu said
+      → OnlySaw t (steps_unlocked p command said) locked after.locked → IsLegalOn (steps_unlocked p command said) → Follows (steps_unlocked p command said) after
+  unlocked_follows (command.Fast g) (unlocked.Fast (Got f)) after is kept legal = got_follows g f after is kept legal
+  unlocked_follows (command.Fast g) (unlocked.Fast fast) after is kept legal =
       unseen_follows after kept (fast_same g fast c.last c.part after.cpu.last after.cpu.part is (λ f e. cc))
-  alone_follows (command.Get f) (unlocked.Got Held) after is kept legal =
+  unlocked_follows (command.Get f) (unlocked.Got Held) after is kept legal =
       step_follows (step.Get f) step_answer.Held after kept tt (fast_calls_lead.held t run m cpus k c.part after.cpu.part this_part f is.1) legal
-  alone_follows (command.Get f) (unlocked.Got got) after is kept legal = unseen_follows after kept is.1
-  alone_follows (command.Get f) (unlocked.Refused PinsFull) after is kept legal = unseen_follows after kept is.1.1
-  alone_follows (command.Put f) (unlocked.Put putted) after is kept legal =
+  unlocked_follows (command.Get f) (unlocked.Got got) after is kept legal = unseen_follows after kept is.1
+  unlocked_follows (command.Get f) (unlocked.Refused PinsFull) after is kept legal = unseen_follows after kept is.1.1
+  unlocked_follows (command.Put f) (unlocked.Put putted) after is kept legal =
       step_follows (step.Put f) (put_answer putted) after kept tt (fast_calls_lead.is_put t run m cpus k c.part after.cpu.part this_part f putted is.1) legal
-  alone_follows (command.Put f) (unlocked.Refused NotPinned) after is kept legal = unseen_follows after kept is.1.1
-  alone_follows (command.Release f) unlocked.Listed after is kept legal =
+  unlocked_follows (command.Put f) (unlocked.Refused NotPinned) after is kept legal = unseen_follows after kept is.1.1
+  unlocked_follows (command.Release f) unlocked.Listed after is kept legal =
       step_follows (step.Credit f) step_answer.Stocked after kept tt
       (fast_calls_lead.listed t run m cpus k c.part after.cpu.part this_part f c.last after.cpu.last is.listed) legal
-  alone_follows command said after is kept legal = absurd is
+  unlocked_follows command said after is kept legal = absurd is
 
-  unlocked_follows : (command : Command) (steps : Run) (after : LockedState) (said : UnlockedAnswer)
-      → AnswersUnlocked command (transition t before steps after) said → IsLegalOn steps → Follows steps after
-  unlocked_follows (command.Alloc path zero) steps after (unlocked.Fast (Got f)) is legal =
-      as_made steps _ after is.alone.steps_are (λ all. got_follows is.gets.group f after is.gets.got is.alone.locked all) legal
-  unlocked_follows (command.Alloc path zero) steps after (unlocked.Refused NoGroup) none legal =
+  serves_unlocked_follows : (command : Command) (steps : Run) (after : LockedState) (said : UnlockedAnswer)
+      → ServesUnlocked command (transition t before steps after) said → IsLegalOn steps → Follows steps after
+  serves_unlocked_follows (command.Alloc path zero) steps after (unlocked.Fast (Got f)) is legal =
+      as_made steps _ after is.takes_no_lock.steps_are (λ all. got_follows is.gets.group f after is.gets.got is.takes_no_lock.locked all) legal
+  serves_unlocked_follows (command.Alloc path zero) steps after (unlocked.Refused NoGroup) none legal =
       as_made steps [] after none.1 (λ all. unseen_follows after (not_watched t locked after.locked none.0.same_locked)
       (ap (λ (x : CpuInRun). x.part) none.0.same_cpu)) legal
-  unlocked_follows (command.Alloc path zero) steps after said is legal = absurd is.0
-  unlocked_follows command steps after said is legal =
-      as_made steps (steps_alone p command said) after is.1.steps_are (λ all. alone_follows command said after is.0 is.1.locked all) legal
+  serves_unlocked_follows (command.Alloc path zero) steps after said is legal = absurd is.0
+  serves_unlocked_follows command steps after said is legal =
+      as_made steps (steps_unlocked p command said) after is.1.steps_are (λ all. unlocked_follows command said after is.0 is.1.locked all) legal
 
   -- served under the lock
   locked_follows : (is_explained : Bool) (seen : LockedState) → OnlySaw t [] locked seen.locked → seen.cpu.part ≡ c.part → (command : Command)
@@ -231,4 +229,4 @@ module _ (t : KnownTable) (run : Run) (locked : KnownLocked) (cpus : List KnownC
       locked_follows is_explained is.seen is.only_saw (vain_same command before is.seen.cpu is.tried) command (answer.Served reply) steps after is.served legal
   answer_follows is_explained command steps after answer.Settled is legal =
       locked_follows is_explained before (saw_none t locked) refl command answer.Settled steps after is legal
-  answer_follows is_explained command steps after (answer.Unlocked said) is legal = unlocked_follows command steps after said is legal
+  answer_follows is_explained command steps after (answer.Unlocked said) is legal = serves_unlocked_follows command steps after said is legal

@@ -7,23 +7,22 @@ use Rattle.std.specs.List.{slice_get}
 use Rattle.std.proofs.lemmas.List.{map-set}
 use Rattle.std.proofs.lemmas.Option.{slice_get-map}
 use Rattle.boot_words.specs.declared.past.Past.{Past}
-use Rattle.boot_words.specs.{AllOf, KnownPasts, Meets, own_past, GrewByAll, IsRunSoFar, changes_nothing}
+use Rattle.boot_words.specs.{AllOf, KnownPasts, Meets, own_past, GrewByAll, IsRunSoFar, changes_nothing, KnownTable}
 use Rattle.boot_words.proofs.Gaining.{gains_go_on, meet_gains, none_gains}
 use Rattle.frame_word.specs.declared.answers.Put.{Put}
 use Rattle.frame_word.specs.declared.answers.Put.TheVariants as put
-use Rattle.frame_word.specs.Seats.{KnownTable}
-use Rattle.stock_word.specs.declared.view.Stock.{Stock}
+use Rattle.stock_word.specs.declared.stock.Stock.{Stock}
 use Rattle.stock_word.specs.Stock.{is_held}
 use Rattle.group_tree.specs.declared.fault.Fault.TheVariants.{PinsFull, NotPinned}
 use Rattle.cpu_part.specs.declared.answers.Fast.{Fast}
 use Rattle.cpu_part.specs.declared.answers.Fast.TheVariants as fast
-use Rattle.cpu_part.specs.Told.{one_step, steps_of_fast, steps_of_put}
+use Rattle.cpu_part.specs.Told.{steps_of_fast, steps_of_put}
 use Rattle.step_rules.specs.declared.step.Step.{Step}
 use Rattle.step_rules.specs.declared.step.Action.{Action}
 use Rattle.step_rules.specs.declared.step.Action.TheVariants as step
 use Rattle.step_rules.specs.declared.step.Answer.{Answer}
 use Rattle.step_rules.specs.declared.step.Answer.TheVariants as step_answer
-use Rattle.step_rules.specs.After.{Run}
+use Rattle.step_rules.specs.After.{Run, cpu_makes}
 use Rattle.step_watch.specs.Watched.{Watches}
 use Rattle.step_watch.proofs.Watching.{watches_both, watches_none}
 use Rattle.mem_machine.specs.Machines.{left_by, with_past}
@@ -32,34 +31,34 @@ use Rattle.reply_texts.specs.declared.steps.UnlockedAnswer.{UnlockedAnswer}
 use Rattle.reply_texts.specs.declared.steps.UnlockedAnswer.TheVariants as unlocked
 use Rattle.script_lines.specs.declared.line.Command.TheVariants as command
 use Rattle.script_lines.specs.declared.line.Command.{Command}
-use Rattle.script_replay.specs.Answers.{AnswersAlone, Gains, MakesAlone, NeedsLock, OnlySaw, OnlyWatched, locked_with_run, steps_alone}
+use Rattle.script_replay.specs.Answers.{AnswersUnlocked, Gains, MakesUnlocked, NeedsLock, OnlySaw, OnlyWatched, locked_with_run, steps_unlocked}
 use Rattle.script_replay.specs.Lines.{AllLinesGoOn, RunGoesOn, HasRun, SystemState, steps_of_served, system_state}
 
 -- ---- the steps of a call without the lock
 
 module _ (n : ℕ) (before after : KnownPasts) where
   -- no step
-  nothing : GrewByAll (own_past before) [] (own_past after) → MakesAlone n [] before after
+  nothing : GrewByAll (own_past before) [] (own_past after) → MakesUnlocked n [] before after
   nothing grew = record { made = []; grew = grew; changes = refl; own = tt }
 
   -- one step that is told
-  told : (action : Action) (answer : Answer) → GrewByAll (own_past before) (one_step n action answer) (own_past after)
-      → MakesAlone n (one_step n action answer) before after
-  told action answer grew = record { made = one_step n action answer; grew = grew; changes = inr ([], refl, refl); own = (refl, tt) }
+  told : (action : Action) (answer : Answer) → GrewByAll (own_past before) (cpu_makes n action answer ∷ []) (own_past after)
+      → MakesUnlocked n (cpu_makes n action answer ∷ []) before after
+  told action answer grew = record { made = cpu_makes n action answer ∷ []; grew = grew; changes = inr ([], refl, refl); own = (refl, tt) }
 
   -- one step that changes nothing
-  quiet : (action : Action) (answer : Answer) → changes_nothing answer ≡ true → GrewByAll (own_past before) (one_step n action answer) (own_past after)
-      → MakesAlone n [] before after
-  quiet action answer none grew = record { made = one_step n action answer; grew = grew; changes = inl (none, refl); own = (refl, tt) }
+  quiet : (action : Action) (answer : Answer) → changes_nothing answer ≡ true → GrewByAll (own_past before) (cpu_makes n action answer ∷ []) (own_past after)
+      → MakesUnlocked n [] before after
+  quiet action answer none grew = record { made = cpu_makes n action answer ∷ []; grew = grew; changes = inl (none, refl); own = (refl, tt) }
 
   -- a step that finds the stock drained, if it was made
-  drained : (action : Action) (b : Bool) → GrewByAll (own_past before) (if b then one_step n action step_answer.Drained else []) (own_past after)
-      → MakesAlone n [] before after
+  drained : (action : Action) (b : Bool) → GrewByAll (own_past before) (if b then cpu_makes n action step_answer.Drained ∷ [] else []) (own_past after)
+      → MakesUnlocked n [] before after
   drained action true grew = quiet action step_answer.Drained refl grew
   drained action false grew = nothing grew
 
   pub fast_made : (g : ℕ) (answer : Fast) (last : Stock) → GrewByAll (own_past before) (steps_of_fast n g answer last) (own_past after)
-      → MakesAlone n (steps_alone n (command.Fast g) (unlocked.Fast answer)) before after
+      → MakesUnlocked n (steps_unlocked n (command.Fast g) (unlocked.Fast answer)) before after
   fast_made g (fast.Got f) last grew = told (step.Consume g) step_answer.Took grew
   fast_made g fast.Drained last grew = drained (step.Consume g) (is_held last) grew
   fast_made g fast.FreshFull last grew = nothing grew
@@ -68,12 +67,12 @@ module _ (n : ℕ) (before after : KnownPasts) where
   fast_made g fast.NoStock last grew = nothing grew
 
   pub no_fast_made : (g : ℕ) (answer : Fast) (last : Stock) → ((frame : ℕ) → answer ≢ fast.Got frame)
-      → GrewByAll (own_past before) (steps_of_fast n g answer last) (own_past after) → MakesAlone n [] before after
+      → GrewByAll (own_past before) (steps_of_fast n g answer last) (own_past after) → MakesUnlocked n [] before after
   no_fast_made g (fast.Got f) last none grew = absurd (none f refl)
   no_fast_made g answer last none grew = fast_made g answer last grew
 
   pub put_made : (f : ℕ) (answer : Put) → GrewByAll (own_past before) (steps_of_put n f answer) (own_past after)
-      → MakesAlone n (steps_alone n (command.Put f) (unlocked.Put answer)) before after
+      → MakesUnlocked n (steps_unlocked n (command.Put f) (unlocked.Put answer)) before after
   put_made f (put.Left left) grew = told (step.Put f) (step_answer.Left left) grew
   put_made f put.Last grew = told (step.Put f) step_answer.Last grew
 
@@ -113,15 +112,15 @@ both_saw t l m n c c' d d' is meets later again = saw_both t [] [] l m n (met_sa
 
 -- ---- a call between two meetings: what it says names no past
 
-alone_anywhere : (command : Command) (c d : CpuInRun) (said : UnlockedAnswer) (p q : KnownPasts) → AnswersAlone command c d said
-    → AnswersAlone command (record c { past = p }) (record d { past = q }) said
-alone_anywhere (command.Fast g) c d (unlocked.Fast fast) p q is = is
-alone_anywhere (command.Get f) c d (unlocked.Got got) p q is = is
-alone_anywhere (command.Get f) c d (unlocked.Refused PinsFull) p q is = is
-alone_anywhere (command.Put f) c d (unlocked.Put put) p q is = is
-alone_anywhere (command.Put f) c d (unlocked.Refused NotPinned) p q is = is
-alone_anywhere (command.Release f) c d unlocked.Listed p q is = record { fresh = is.fresh; listed = is.listed }
-alone_anywhere command c d said p q is = absurd is
+unlocked_anywhere : (command : Command) (c d : CpuInRun) (said : UnlockedAnswer) (p q : KnownPasts) → AnswersUnlocked command c d said
+    → AnswersUnlocked command (record c { past = p }) (record d { past = q }) said
+unlocked_anywhere (command.Fast g) c d (unlocked.Fast fast) p q is = is
+unlocked_anywhere (command.Get f) c d (unlocked.Got got) p q is = is
+unlocked_anywhere (command.Get f) c d (unlocked.Refused PinsFull) p q is = is
+unlocked_anywhere (command.Put f) c d (unlocked.Put put) p q is = is
+unlocked_anywhere (command.Put f) c d (unlocked.Refused NotPinned) p q is = is
+unlocked_anywhere (command.Release f) c d unlocked.Listed p q is = record { fresh = is.fresh; listed = is.listed }
+unlocked_anywhere command c d said p q is = absurd is
 
 vain_anywhere : (command : Command) (c d : CpuInRun) (p q : KnownPasts) → NeedsLock command c d → NeedsLock command (record c { past = p }) (record d { past = q })
 vain_anywhere (command.Release f) c d p q (inl is) = inl (record { none_fresh = is.none_fresh; stays = is.stays })
@@ -137,9 +136,9 @@ module _ (command : Command) (c c1 c2 d : CpuInRun) (part : c1.part ≡ c.part) 
   met Is = subst (λ (x : CpuInRun × CpuInRun). Is x.0 x.1)
       (λ i. (record { part = part i; past = c.past; last = last i }, record { part = sym part' i; past = d.past; last = sym last' i }))
 
-  pub alone_met : (o : Option UnlockedAnswer) → IfSome o (AnswersAlone command c1 c2) → IfSome o (AnswersAlone command c d)
-  alone_met None is = tt
-  alone_met (Some said) is = met (λ x y. AnswersAlone command x y said) (alone_anywhere command c1 c2 said c.past d.past is)
+  pub unlocked_met : (o : Option UnlockedAnswer) → IfSome o (AnswersUnlocked command c1 c2) → IfSome o (AnswersUnlocked command c d)
+  unlocked_met None is = tt
+  unlocked_met (Some said) is = met (λ x y. AnswersUnlocked command x y said) (unlocked_anywhere command c1 c2 said c.past d.past is)
 
   pub vain_met : (o : Option UnlockedAnswer) → IfNone o (NeedsLock command c1 c2) → IfNone o (NeedsLock command c d)
   vain_met None is = met (NeedsLock command) (vain_anywhere command c1 c2 c.past d.past is)
@@ -158,11 +157,11 @@ watched_gains steps more before l m d gains only =
 
 -- a call without the lock, between two meetings
 pub met_gains : (t : KnownTable) (l l1 l2 : KnownLocked) (c c1 c2 c3 : CpuInRun) (steps : ℕ → Run) → (own_past c.past).number ≡ c.part.number
-    → c1.part ≡ c.part → Meets t l.machine.run.past c.past l1.machine.run.past c1.past → MakesAlone c1.part.number (steps c1.part.number) c1.past c2.past
+    → c1.part ≡ c.part → Meets t l.machine.run.past c.past l1.machine.run.past c1.past → MakesUnlocked c1.part.number (steps c1.part.number) c1.past c2.past
     → Meets t l1.machine.run.past c2.past l2.machine.run.past c3.past → Gains (steps c.part.number) (locked_state l c) (locked_state l2 c3)
 met_gains t l l1 l2 c c1 c2 c3 steps in_run same first makes second =
-    let made : MakesAlone c.part.number (steps c.part.number) c1.past c2.past =
-    subst (λ part. MakesAlone part.number (steps part.number) c1.past c2.past) same makes in
+    let made : MakesUnlocked c.part.number (steps c.part.number) c1.past c2.past =
+    subst (λ part. MakesUnlocked part.number (steps part.number) c1.past c2.past) same makes in
     meet_gains t l.machine.run.past c.past l1.machine.run.past c1.past made.made c2.past l2.machine.run.past c3.past (steps c.part.number) first made.grew
     second made.changes (subst (λ (n : ℕ). AllOf (λ (one : Step × Answer). one.0.seat ≡ n) made.made) (sym in_run) made.own)
 

@@ -6,7 +6,7 @@ use Rattle.std.specs.declared.string.String.{String}
 use Rattle.std.specs.String.{string_bytes}
 use Rattle.std.proofs.lemmas.List.{get_or_default}
 use Rattle.std.proofs.lemmas.Option.{slice_get_read}
-use Rattle.frame_word.specs.Seats.{KnownTable}
+use Rattle.boot_words.specs.Tables.{KnownTable}
 use Rattle.step_watch.specs.Watched.{has_legal_steps}
 use Rattle.mem_system.specs.{CpuInRun, KnownLocked, IsSound, locked_state}
 use Rattle.script_lines.specs.declared.line.Command.{Command}
@@ -26,11 +26,11 @@ use Rattle.script_replay.proofs.Telling.{at_ok}
 -- a command that was served at the part that was read
 pub part_read : (on : Terms) (before after : KnownLocked) (cpus : List CpuInRun) (line : Line) (cpu : ℕ) (command : Command) (c d : CpuInRun)
     {number : ℕ} {Z U E : Type 0} (r : Result U E) (old new : String Z) → on.is_numbered ≡ false → line ≡ At number cpu command →
-    LineInRange on.frames.frames (length cpus) line → c ≡ get_or cpus (cpu - 1) c →
-    AddsText r old new (ServesCommand on command (locked_state before c) (locked_state after d)) → IsSound on.frames after →
+    LineInRange on.table.frames (length cpus) line → c ≡ get_or cpus (cpu - 1) c →
+    AddsText r old new (ServesCommand on command (locked_state before c) (locked_state after d)) → IsSound on.table after →
     AddsText r old new (ServesLine on line (system_state before cpus) (system_state after (slice_set cpus (cpu - 1) d)))
 part_read on before after cpus line cpu command c d {number = number} r old new plain is there read answered sound =
-    let named : LineInRange on.frames.frames (length cpus) (At number cpu command) = subst (LineInRange on.frames.frames (length cpus)) is there in
+    let named : LineInRange on.table.frames (length cpus) (At number cpu command) = subst (LineInRange on.table.frames (length cpus)) is there in
     let low = named.low in
     let high = named.high in
     let is_part : slice_get cpus (cpu - 1) ≡ Some c = slice_get_read cpus (length cpus) (cpu - 1) c refl (omega arith) read in record {

@@ -5,7 +5,7 @@ use Rattle.boot_words.specs.{GrewByAll, SeesMore, changes_nothing, KnownPasts, o
 use Rattle.boot_words.proofs.Grown.{all_grew_both}
 use Rattle.boot_words.proofs.Ordered.{without_both, without_none}
 use Rattle.step_rules.specs.After.{Run}
-use Rattle.script_replay.specs.{MakesAlone, GrewByChanges}
+use Rattle.script_replay.specs.{MakesUnlocked, GrewByChanges}
 
 -- ---- steps of others
 
@@ -49,8 +49,8 @@ all_grew before steps after grew = record {
   changes = without_none (λ e. changes_nothing e.1 ≡ true) steps;
 }
 
-pub alone_grew : (n : ℕ) (steps : Run) (before after : KnownPasts) → MakesAlone n steps before after → GrewByChanges before steps after
-alone_grew n steps before after is =
+pub unlocked_grew : (n : ℕ) (steps : Run) (before after : KnownPasts) → MakesUnlocked n steps before after → GrewByChanges before steps after
+unlocked_grew n steps before after is =
     record { made = is.made; last = own_past after; grew = is.grew; more = sees_none (own_past after); changes = is.changes }
 
 -- no step, but others'

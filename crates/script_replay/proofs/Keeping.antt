@@ -6,9 +6,9 @@ use Rattle.std.specs.Option.{option_map}
 use Rattle.std.specs.List.{slice_get}
 use Rattle.std.proofs.lemmas.List.{map-set}
 use Rattle.std.proofs.lemmas.Option.{slice_get-map}
-use Rattle.frame_word.specs.Seats.{KnownTable}
 use Rattle.step_rules.specs.After.{Run, IsLegalRun}
-use Rattle.mem_machine.specs.{AgreesWithRun, zone_of}
+use Rattle.boot_words.specs.{zone_of_boot, KnownTable}
+use Rattle.mem_machine.specs.{AgreesWithRun}
 use Rattle.mem_history.specs.Whole.{GoesOnTo, ShowsAll}
 use Rattle.mem_history.proofs.Along.{legal_front}
 use Rattle.mem_history.proofs.Promised.{the_whole_is_promised}
@@ -16,7 +16,7 @@ use Rattle.mem_system.specs.Cpus.{CpuInRun, parts_of}
 use Rattle.mem_system.specs.Visits.{transition, locked_state}
 use Rattle.script_lines.specs.declared.line.Line.{Line}
 use Rattle.script_lines.specs.declared.line.Line.TheVariants.{Go, At}
-use Rattle.script_replay.specs.{WritesCommand, KeepsHistory, KeepsPromise, LegalLinesAreShown, LegalLinesKeepIt, past, AtPart, ServesAll, ServesLine}
+use Rattle.script_replay.specs.{WritesCommand, KeepsHistory, KeepsPromise, LegalLinesAreShown, LegalLinesKeepIt, lines_so_far, AtPart, ServesAll, ServesLine}
 use Rattle.script_replay.specs.{SystemState, steps_of_served}
 use Rattle.script_replay.specs.Terms.{Terms}
 use Rattle.script_replay.proofs.Following.{answer_follows}
@@ -39,16 +39,16 @@ nothing_follows t run s e steps none same shows =
     subst (λ (x : Run × SystemState). Follows t run s x.0 x.1) (λ i. ((sym (append-nil run) ∙ ap (λ (r : Run). run ++ r) (sym none)) i, sym same i))
     (record { shows = shows; agrees = λ told. told })
 
-pub line_follows : (on : Terms) (run : Run) (line : Line) (s e : SystemState) (text : List ℕ) → ShowsAll on.frames run s.locked.machine (parts_of s.cpus)
-    → (serves : ServesLine on line s e text) → IsLegalRun (zone_of on.frames) (run ++ serves.steps) → Follows on.frames run s (run ++ serves.steps) e
+pub line_follows : (on : Terms) (run : Run) (line : Line) (s e : SystemState) (text : List ℕ) → ShowsAll on.table run s.locked.machine (parts_of s.cpus)
+    → (serves : ServesLine on line s e text) → IsLegalRun (zone_of_boot on.table) (run ++ serves.steps) → Follows on.table run s (run ++ serves.steps) e
 line_follows on run Go s e text shows serves legal =
-    nothing_follows on.frames run s e serves.steps serves.tells.so.steps_are serves.tells.so.stays shows
+    nothing_follows on.table run s e serves.steps serves.tells.so.steps_are serves.tells.so.stays shows
 line_follows on run (At number cpu command) s e text shows serves legal =
     let steps = serves.steps in
     let is : AtPart cpu (λ part left. WritesCommand on.is_explained command
-    (transition on.frames (locked_state s.locked part) steps (locked_state e.locked left)) serves.tells.plain) s.cpus e.cpus = serves.tells.so in
-    subst (GoesOnTo on.frames run s.locked.machine (run ++ steps) e.locked.machine) (sym (ap parts_of is.cpus ∙ parts_set s.cpus (cpu - 1) is.left))
-    (answer_follows on.frames run s.locked (parts_of s.cpus) (cpu - 1) is.part shows (part_at s.cpus (cpu - 1) is.part is.is_part) on.is_explained command steps
+    (transition on.table (locked_state s.locked part) steps (locked_state e.locked left)) serves.tells.plain) s.cpus e.cpus = serves.tells.so in
+    subst (GoesOnTo on.table run s.locked.machine (run ++ steps) e.locked.machine) (sym (ap parts_of is.cpus ∙ parts_set s.cpus (cpu - 1) is.left))
+    (answer_follows on.table run s.locked (parts_of s.cpus) (cpu - 1) is.part shows (part_at s.cpus (cpu - 1) is.part is.is_part) on.is_explained command steps
     (locked_state e.locked is.left) is.done.answer is.done.answered legal)
 
 -- and then by more
@@ -59,38 +59,38 @@ follows_both t run s m e one two first rest =
     (record { shows = rest.shows; agrees = λ told. rest.agrees (first.agrees told) })
 
 -- the legal run of two lists of steps, up to the second
-pub legal_first : (t : KnownTable) (run one two : Run) → IsLegalRun (zone_of t) (run ++ (one ++ two)) → IsLegalRun (zone_of t) (run ++ one)
-legal_first t run one two legal = legal_front (zone_of t) (run ++ one) two (subst (IsLegalRun (zone_of t)) (sym (append_assoc run one two)) legal)
+pub legal_first : (t : KnownTable) (run one two : Run) → IsLegalRun (zone_of_boot t) (run ++ (one ++ two)) → IsLegalRun (zone_of_boot t) (run ++ one)
+legal_first t run one two legal = legal_front (zone_of_boot t) (run ++ one) two (subst (IsLegalRun (zone_of_boot t)) (sym (append_assoc run one two)) legal)
 
 pub legal_lines_are_shown : LegalLinesAreShown
-legal_lines_are_shown on [] s e text served run shows legal = nothing_follows on.frames run s e [] refl served.1 shows
+legal_lines_are_shown on [] s e text served run shows legal = nothing_follows on.table run s e [] refl served.1 shows
 legal_lines_are_shown on (line ∷ lines) s e text served run shows legal =
     let one = served.serves_first in
     let mid = served.between in
     let more = steps_of_served on lines mid e served.rest served.serves_rest in
-    let first = line_follows on run line s mid served.first shows one (legal_first on.frames run one.steps more legal) in
-    follows_both on.frames run s mid e one.steps more first
+    let first = line_follows on run line s mid served.first shows one (legal_first on.table run one.steps more legal) in
+    follows_both on.table run s mid e one.steps more first
     (legal_lines_are_shown on lines mid e served.rest served.serves_rest (run ++ one.steps) first.shows
-    (subst (IsLegalRun (zone_of on.frames)) (sym (append_assoc run one.steps more)) legal))
+    (subst (IsLegalRun (zone_of_boot on.table)) (sym (append_assoc run one.steps more)) legal))
 
 -- the promise holds after a line
 pub line_kept : (on : Terms) (run : Run) (line : Line) (s e : SystemState) (text : List ℕ) (serves : ServesLine on line s e text)
-    → Follows on.frames run s (run ++ serves.steps) e → AgreesWithRun on.frames run s.locked.machine.ledger
-    → KeepsPromise on.frames (run ++ serves.steps) e
+    → Follows on.table run s (run ++ serves.steps) e → AgreesWithRun on.table run s.locked.machine.ledger
+    → KeepsPromise on.table (run ++ serves.steps) e
 line_kept on run line s e text serves goes told = record {
-  promise = the_whole_is_promised on.frames (run ++ serves.steps) e.locked.machine (parts_of e.cpus) goes.shows serves.sound.consistent serves.sound.charges;
+  promise = the_whole_is_promised on.table (run ++ serves.steps) e.locked.machine (parts_of e.cpus) goes.shows serves.sound.consistent serves.sound.charges;
   tells = goes.agrees told;
 }
 
 all_kept : (on : Terms) (lines : List Line) (s e : SystemState) (text : List ℕ) (served : ServesAll on lines s e text) (run : Run)
-    → ShowsAll on.frames run s.locked.machine (parts_of s.cpus) → (whole : Run) → whole ≡ run ++ steps_of_served on lines s e text served
-    → IsLegalRun (zone_of on.frames) whole → AgreesWithRun on.frames run s.locked.machine.ledger → KeepsHistory on lines (past run s) (past whole e) text
-all_kept on [] s e text served run shows whole is legal told = (served.0, λ i. past ((is ∙ append-nil run) i) (served.1 i))
+    → ShowsAll on.table run s.locked.machine (parts_of s.cpus) → (whole : Run) → whole ≡ run ++ steps_of_served on lines s e text served
+    → IsLegalRun (zone_of_boot on.table) whole → AgreesWithRun on.table run s.locked.machine.ledger → KeepsHistory on lines (lines_so_far run s) (lines_so_far whole e) text
+all_kept on [] s e text served run shows whole is legal told = (served.0, λ i. lines_so_far ((is ∙ append-nil run) i) (served.1 i))
 all_kept on (line ∷ lines) s e text served run shows whole is legal told =
     let one = served.serves_first in
     let mid = served.between in
     let more = steps_of_served on lines mid e served.rest served.serves_rest in
-    let first = line_follows on run line s mid served.first shows one (legal_first on.frames run one.steps more (subst (IsLegalRun (zone_of on.frames)) is legal)) in
+    let first = line_follows on run line s mid served.first shows one (legal_first on.table run one.steps more (subst (IsLegalRun (zone_of_boot on.table)) is legal)) in
     record {
       first = served.first;
       rest = served.rest;

@@ -3,7 +3,7 @@ use Rattle.std.proofs.Common.{◌≡◌, ◌-◌, ℕ, false, Some, List, [], ap
 use Rattle.std.specs.Prelude.{length, slice_set}
 use Rattle.std.specs.List.{slice_get}
 use Rattle.std.proofs.lemmas.Option.{slice_get_read}
-use Rattle.frame_word.specs.Seats.{KnownTable}
+use Rattle.boot_words.specs.Tables.{KnownTable}
 use Rattle.mem_system.specs.{CpuInRun, IsSound, KnownLocked, LockedState, locked_state}
 use Rattle.mem_system.specs.Visits.{Transition, transition}
 use Rattle.reply_texts.specs.LineAnswer.{LineAnswer}

@@ -1,15 +1,13 @@
 -- The watch took the steps of each line, and so of all lines. Serves `replay_checked`, and `log_line` of `line_server`.
 use Rattle.std.proofs.Common.{◌≡◌, ◌++◌, ℕ, zero, Bool, true, List, [], ◌∷◌, refl, sym, ap, subst}
-use Rattle.frame_word.specs.Seats.{KnownTable}
+use Rattle.boot_words.specs.{zone_of_boot, KnownTable}
 use Rattle.cpu_part.specs.declared.answers.Fast.TheVariants.{Got}
 use Rattle.group_tree.specs.declared.fault.Fault.TheVariants.{NoGroup}
 use Rattle.step_rules.specs.declared.step.Action.TheVariants as step
 use Rattle.step_rules.specs.declared.step.Answer.TheVariants as step_answer
-use Rattle.step_rules.specs.After.{Run}
+use Rattle.step_rules.specs.After.{Run, cpu_makes}
 use Rattle.step_watch.specs.Watched.{KnownWatch, Watches, SawRun, has_legal_steps}
 use Rattle.step_watch.proofs.Watching.{watches_none, watches_both, watched_runs_are_legal}
-use Rattle.mem_machine.specs.Interleaving.{zone_of}
-use Rattle.mem_machine.specs.Steps.{cpu_makes}
 use Rattle.mem_system.specs.Locked.{KnownLocked}
 use Rattle.mem_system.specs.Visits.{transition, LockedState}
 use Rattle.reply_texts.specs.LineAnswer.{LineAnswer}
@@ -20,7 +18,7 @@ use Rattle.script_lines.specs.declared.line.Command.{Command}
 use Rattle.script_lines.specs.declared.line.Command.TheVariants as command
 use Rattle.script_lines.specs.declared.line.Line.{Line}
 use Rattle.script_lines.specs.declared.line.Line.TheVariants.{Go, At}
-use Rattle.script_replay.specs.{AnswersCommand, AnswersUnlocked, IsServedUnderLock, OnlySaw, WritesCommand, ReplaysLegally, SystemState, ServesAll}
+use Rattle.script_replay.specs.{AnswersCommand, ServesUnlocked, IsServedUnderLock, OnlySaw, WritesCommand, ReplaysLegally, SystemState, ServesAll}
 use Rattle.script_replay.specs.{WritesLine, steps_of_served}
 use Rattle.script_replay.proofs.Gaining.{saw_none}
 use Rattle.script_replay.specs.Terms.{Terms}
@@ -40,8 +38,8 @@ module _ (t : KnownTable) (before : LockedState) (steps : Run) (after : LockedSt
   abbrev SeesAll : Type 0
   SeesAll = Sees steps before.locked after.locked
 
-  alone_seen : (made : Run) → steps ≡ made → OnlySaw t made before.locked after.locked → SeesAll
-  alone_seen made are only = subst (λ (r : Run). Sees r before.locked after.locked) (sym are) only.watched
+  made_seen : (made : Run) → steps ≡ made → OnlySaw t made before.locked after.locked → SeesAll
+  made_seen made are only = subst (λ (r : Run). Sees r before.locked after.locked) (sym are) only.watched
 
   locked_seen : (is_explained : Bool) (command : Command) (seen : LockedState) (answer : LineAnswer) → OnlySaw t [] before.locked seen.locked
       → IsServedUnderLock is_explained command answer (transition t seen steps after) → SeesAll
@@ -60,11 +58,11 @@ module _ (t : KnownTable) (before : LockedState) (steps : Run) (after : LockedSt
       watches_both before.locked.machine.run.watch [] a steps e saw.watched
       (subst (λ (r : Run). Watches a r e) (sym is.steps_are) (watches_both a first b (served.steps ++ last) e is.lock.watched rest))
 
-  unlocked_seen : (command : Command) (said : UnlockedAnswer) → AnswersUnlocked command (transition t before steps after) said → SeesAll
-  unlocked_seen (command.Alloc path zero) (unlocked.Fast (Got f)) is = alone_seen _ is.alone.steps_are is.alone.locked
+  unlocked_seen : (command : Command) (said : UnlockedAnswer) → ServesUnlocked command (transition t before steps after) said → SeesAll
+  unlocked_seen (command.Alloc path zero) (unlocked.Fast (Got f)) is = made_seen _ is.takes_no_lock.steps_are is.takes_no_lock.locked
   unlocked_seen (command.Alloc path zero) (unlocked.Refused NoGroup) none = stays_seen steps before.locked after.locked none.1 none.0.same_locked
   unlocked_seen (command.Alloc path zero) said is = absurd is.0
-  unlocked_seen command said is = alone_seen _ is.1.steps_are is.1.locked
+  unlocked_seen command said is = made_seen _ is.1.steps_are is.1.locked
 
   answer_seen : (is_explained : Bool) (command : Command) (answer : LineAnswer)
       → AnswersCommand is_explained command (transition t before steps after) answer → SeesAll
@@ -92,7 +90,7 @@ all_seen on (line ∷ lines) s e text served =
     let one = served.serves_first in
     let mid = served.between in
     watches_both s.locked.machine.run.watch one.steps mid.locked.machine.run.watch (steps_of_served on lines mid e served.rest served.serves_rest)
-    e.locked.machine.run.watch (line_seen on.frames on.is_explained line s one.steps mid one.tells.plain one.tells.so)
+    e.locked.machine.run.watch (line_seen on.table on.is_explained line s one.steps mid one.tells.plain one.tells.so)
     (all_seen on lines mid e served.rest served.serves_rest)
 
 -- if the watch was new before the lines and allowed all steps, the lines have a legal history
@@ -102,7 +100,7 @@ replayed_legally on lines s e text served allowed = record {
   served = served;
   history = λ shows told new.
       let steps = steps_of_served on lines s e text served in
-      let saw : SawRun (zone_of on.frames) steps e.locked.machine.run.watch =
-      watched_runs_are_legal (zone_of on.frames) s.locked.machine.run.watch steps e.locked.machine.run.watch new (all_seen on lines s e text served) allowed in
+      let saw : SawRun (zone_of_boot on.table) steps e.locked.machine.run.watch =
+      watched_runs_are_legal (zone_of_boot on.table) s.locked.machine.run.watch steps e.locked.machine.run.watch new (all_seen on lines s e text served) allowed in
       record { run = steps; saw = saw; history = legal_lines_keep_it on lines s e text served [] shows saw.legal told };
 }

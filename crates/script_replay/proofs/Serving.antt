@@ -5,7 +5,7 @@ use Rattle.std.specs.Borrow.{Bor}
 use Rattle.std.specs.declared.string.String.{String}
 use Rattle.std.specs.String.{string_bytes}
 use Rattle.group_charge.specs.Charges.{Ledger}
-use Rattle.frame_word.specs.Seats.{KnownTable}
+use Rattle.boot_words.specs.Tables.{KnownTable}
 use Rattle.cpu_part.specs.declared.answers.Fast.{Fast as FastAnswer}
 use Rattle.cpu_part.specs.declared.answers.Fast.TheVariants.{FreshFull, ListEmpty, OtherGroup, Drained, NoStock, Got}
 use Rattle.mem_machine.specs.Machines.{KnownMachine}
@@ -23,17 +23,17 @@ use Rattle.script_lines.specs.declared.line.Command.TheVariants.{Alloc, Fast, Ge
 use Rattle.step_rules.specs.After.{Run}
 use Rattle.script_replay.specs.declared.answer_value.AnswerValue.{AnswerValue}
 use Rattle.script_replay.specs.declared.answer_value.AnswerValue.TheVariants as value
-use Rattle.script_replay.specs.{AddsText, AnswersAlone, AnswersLocked, Gains, OnlySaw, AnswersCommand, AnswersUnlocked, IsAnswerText, IsSettledText}
+use Rattle.script_replay.specs.{AddsText, AnswersUnlocked, AnswersLocked, Gains, OnlySaw, AnswersCommand, ServesUnlocked, IsAnswerText, IsSettledText}
 use Rattle.script_replay.specs.{IsTriedInVain, NeedsLock, OnlyWatched, ServesAnswer, ServesUnderLock, TakesNoLock, explanation_if, is_noted}
-use Rattle.script_replay.specs.{steps_alone, OnlySettles, locked_command_of, frame_path, head_named, is_tried, path_removed, borrower_of, fault_in}
+use Rattle.script_replay.specs.{steps_unlocked, OnlySettles, locked_command_of, frame_path, head_named, is_tried, path_removed, borrower_of, fault_in}
 use Rattle.script_replay.specs.{refusal_reason_text, reasoned_text, answer_of}
 use Rattle.script_replay.specs.Terms.{Terms}
 use Rattle.script_replay.proofs.Gaining.{saw_both, watched_gains, watched_saw}
 
 -- ---- served
 
-unlocked_is : (command : Command) (call : Transition LockedState) (said : UnlockedAnswer) → AnswersAlone command call.before.cpu call.after.cpu said
-    → TakesNoLock (steps_alone call.before.cpu.part.number command said) call → AnswersUnlocked command call said
+unlocked_is : (command : Command) (call : Transition LockedState) (said : UnlockedAnswer) → AnswersUnlocked command call.before.cpu call.after.cpu said
+    → TakesNoLock (steps_unlocked call.before.cpu.part.number command said) call → ServesUnlocked command call said
 unlocked_is (Alloc path order) call said is alone = absurd is
 unlocked_is command call said is alone = (is, alone)
 
@@ -45,20 +45,20 @@ then_watched t l mid m cpu number is told saw watched =
 
 module _ (on : Terms) (command : Command) (l m : KnownLocked) (c d : CpuInRun) where
   -- without the lock
-  pub unlocked_served : (mid : KnownLocked) (cpu : ℕ) (said : UnlockedAnswer) → cpu ≡ c.part.number → AnswersAlone command c d said → OnlySaw on.frames [] l mid
-      → Gains (steps_alone c.part.number command said) (locked_state l c) (locked_state mid d) → OnlyWatched (steps_alone cpu command said) mid m
+  pub unlocked_served : (mid : KnownLocked) (cpu : ℕ) (said : UnlockedAnswer) → cpu ≡ c.part.number → AnswersUnlocked command c d said → OnlySaw on.table [] l mid
+      → Gains (steps_unlocked c.part.number command said) (locked_state l c) (locked_state mid d) → OnlyWatched (steps_unlocked cpu command said) mid m
       → ServesAnswer on command (locked_state l c) (locked_state m d) (answer.Unlocked said)
-  unlocked_served mid cpu said is alone saw gains watched = let steps = steps_alone c.part.number command said in record {
+  unlocked_served mid cpu said is alone saw gains watched = let steps = steps_unlocked c.part.number command said in record {
     steps = steps;
-    answered = unlocked_is command (transition on.frames (locked_state l c) steps (locked_state m d)) said alone
-        (record { locked = then_watched on.frames l mid m cpu c.part.number is (λ (n : ℕ). steps_alone n command said) saw watched; steps_are = refl });
-    gains = watched_gains steps (steps_alone cpu command said) (locked_state l c) mid m d gains watched;
+    answered = unlocked_is command (transition on.table (locked_state l c) steps (locked_state m d)) said alone
+        (record { locked = then_watched on.table l mid m cpu c.part.number is (λ (n : ℕ). steps_unlocked n command said) saw watched; steps_are = refl });
+    gains = watched_gains steps (steps_unlocked cpu command said) (locked_state l c) mid m d gains watched;
   }
 
   -- under the lock, after it was tried in vain
-  pub lock_served : (seen : LockedState) (answer : LineAnswer) → IsTriedInVain command (locked_state l c) seen.cpu → OnlySaw on.frames [] l seen.locked
+  pub lock_served : (seen : LockedState) (answer : LineAnswer) → IsTriedInVain command (locked_state l c) seen.cpu → OnlySaw on.table [] l seen.locked
       → Gains [] (locked_state l c) seen → (OnlySettles command → seen ≡ locked_state l c)
-      → ServesUnderLock on.frames on.is_explained command answer seen (locked_state m d) → ServesAnswer on command (locked_state l c) (locked_state m d) answer
+      → ServesUnderLock on.table on.is_explained command answer seen (locked_state m d) → ServesAnswer on command (locked_state l c) (locked_state m d) answer
   lock_served seen (answer.Served reply) tried saw gains stays under = record {
     steps = under.steps;
     answered = record { seen = seen; tried = tried; only_saw = saw; served = under.served };
@@ -66,13 +66,13 @@ module _ (on : Terms) (command : Command) (l m : KnownLocked) (c d : CpuInRun) w
         (own_past m.machine.run.past) (own_past d.past) gains under.gains;
   }
   lock_served seen answer.Settled tried saw gains stays under =
-      let here = subst (λ (x : LockedState). ServesUnderLock on.frames on.is_explained command answer.Settled x (locked_state m d))
+      let here = subst (λ (x : LockedState). ServesUnderLock on.table on.is_explained command answer.Settled x (locked_state m d))
       (stays under.served.answers.is_answer.0) under in record { steps = here.steps; answered = here.served; gains = here.gains }
   lock_served seen (answer.Unlocked said) tried saw gains stays under = absurd under.served.answers.is_answer
 
 -- a frame that wasn't got is no step
 pub none_got : (n g : ℕ) (tried : FastAnswer) (before after : LockedState) → ((f : ℕ) → tried ≢ Got f)
-    → Gains (steps_alone n (Fast g) (unlocked.Fast tried)) before after → Gains [] before after
+    → Gains (steps_unlocked n (Fast g) (unlocked.Fast tried)) before after → Gains [] before after
 none_got n g FreshFull before after none gains = gains
 none_got n g ListEmpty before after none gains = gains
 none_got n g OtherGroup before after none gains = gains
@@ -126,7 +126,7 @@ is_settle command settles blocks show stock units = absurd settles
 pub value_settles : (on : Terms) (command : Command) (before after : LockedState) (ledger : Ledger) (said : AnswerValue)
     → ServesAnswer on command before after (answer_of ledger said) → said ≡ value.Settled → OnlySettles command
 value_settles on command before after ledger said serves is =
-    (subst (λ (v : AnswerValue). AnswersCommand on.is_explained command (transition on.frames before serves.steps after) (answer_of ledger v)) is serves.answered).answers.is_answer.0
+    (subst (λ (v : AnswerValue). AnswersCommand on.is_explained command (transition on.table before serves.steps after) (answer_of ledger v)) is serves.answered).answers.is_answer.0
 
 -- the same of one that was answered under the lock
 pub locked_settles : (t : KnownTable) (command : Command) (before after : LockedState) (ledger : Ledger) (said : AnswerValue)

@@ -1,17 +1,15 @@
 -- A command between the Lock and the Unlock that the watch takes. Serves `serve_under_lock`, `serve_frame_under_lock`.
 use Rattle.std.proofs.Common.{◌≡◌, ◌≢◌, ℕ, ◌++◌, Bool, [], ◌∷◌, ap, inr, refl, subst, sym}
 use Rattle.std.specs.Prelude.{◌⊎◌}
-use Rattle.boot_words.specs.{AllOf, own_past, GrewByAll, changes_of}
+use Rattle.boot_words.specs.{AllOf, own_past, GrewByAll, changes_of, KnownTable}
 use Rattle.boot_words.proofs.Gaining.{of_two_seats, visit_gains}
-use Rattle.frame_word.specs.Seats.{KnownTable}
 use Rattle.group_charge.specs.Charges.{Ledger}
 use Rattle.step_rules.specs.declared.step.Step.{Step}
 use Rattle.step_rules.specs.declared.step.Answer.{Answer}
 use Rattle.step_rules.specs.State.{State}
-use Rattle.step_rules.specs.{Run, after, IsLocalRun}
+use Rattle.step_rules.specs.{Run, after, IsLocalRun, cpu_makes}
 use Rattle.step_rules.specs.declared.step.Action.TheVariants.{Lock, Unlock}
 use Rattle.step_rules.specs.declared.step.Answer.TheVariants as step_answer
-use Rattle.mem_machine.specs.Steps.{cpu_makes}
 use Rattle.mem_history.specs.Whole.{under_lock}
 use Rattle.mem_system.specs.declared.command.LockedCommand.{LockedCommand}
 use Rattle.mem_system.specs.declared.command.ReplyWithText.{ReplyWithText}
@@ -19,7 +17,7 @@ use Rattle.mem_system.specs.{CpuInRun, KnownLocked, IsServed, locked_state}
 use Rattle.reply_texts.specs.LineAnswer.{LineAnswer}
 use Rattle.script_lines.specs.declared.line.Command.{Command}
 use Rattle.script_replay.specs.declared.answer_value.AnswerValue.{AnswerValue}
-use Rattle.script_replay.specs.{AnswersLocked, Gains, OnlyWatched, ServesUnderLock, locked_with_unit_notes, NamesItsGroups, answer_of}
+use Rattle.script_replay.specs.{AnswersLocked, Gains, OnlyWatched, ServesUnderLock, locked_with_detail_notes, NamesItsGroups, answer_of}
 
 -- ---- the seats of the steps under the lock
 
@@ -42,7 +40,7 @@ under_lock_own cpu steps all = (inr refl, and_unlock cpu steps all)
 
 module _ (t : KnownTable) (is_explained : Bool) (command : Command) (before found left after : KnownLocked) (c d : CpuInRun) (number : ℕ) (named : number ≡ c.part.number)
     (in_run : (own_past c.past).number ≡ c.part.number) (zone : (own_past before.machine.run.past).number ≡ 0)
-    (lock : OnlyWatched (cpu_makes number Lock step_answer.Done ∷ []) (locked_with_unit_notes before is_explained) found) (unlock : OnlyWatched (cpu_makes number Unlock step_answer.Done ∷ []) left after) where
+    (lock : OnlyWatched (cpu_makes number Lock step_answer.Done ∷ []) (locked_with_detail_notes before is_explained) found) (unlock : OnlyWatched (cpu_makes number Unlock step_answer.Done ∷ []) left after) where
   -- the zone's past and the CPU's gained the steps, which the watch took
   visit_made : (asked : LockedCommand) (reply : ReplyWithText) → (served : IsServed t asked reply (locked_state found c) (locked_state left d))
       → Gains (under_lock c.part.number served.steps) (locked_state before c) (locked_state after d)
@@ -65,7 +63,7 @@ module _ (t : KnownTable) (is_explained : Bool) (command : Command) (before foun
     served = record {
       found = found;
       left = left;
-      lock = subst (λ (n : ℕ). OnlyWatched (cpu_makes n Lock step_answer.Done ∷ []) (locked_with_unit_notes before is_explained) found) named lock;
+      lock = subst (λ (n : ℕ). OnlyWatched (cpu_makes n Lock step_answer.Done ∷ []) (locked_with_detail_notes before is_explained) found) named lock;
       answers = answers;
       unlock = subst (λ (n : ℕ). OnlyWatched (cpu_makes n Unlock step_answer.Done ∷ []) left after) named unlock;
       steps_are = refl;

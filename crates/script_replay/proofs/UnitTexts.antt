@@ -2,7 +2,7 @@
 use Rattle.std.proofs.Common.{◌≡◌, ◌∙◌, ◌++◌, ℕ, Bool, true, false, Option, Some, None, Result, Ok, Err, IfOk, List, refl, sym, subst}
 use Rattle.std.specs.declared.string.String.{String}
 use Rattle.std.specs.String.{string_bytes}
-use Rattle.frame_word.specs.Seats.{KnownTable}
+use Rattle.boot_words.specs.Tables.{KnownTable}
 use Rattle.machine_texts.specs.Units.{ReadsUnits, units_text}
 use Rattle.mem_machine.specs.{KnownMachine, units_in}
 use Rattle.mem_system.specs.{KnownLocked, UnitsAt}

@@ -6,22 +6,20 @@ use Rattle.std.specs.Prelude.{Option, Some, None, Result, IfOk, length}
 use Rattle.std.specs.declared.string.String.{String}
 use Rattle.std.specs.String.{string_bytes}
 use Rattle.frame_word.specs.declared.answers.Get.TheVariants.{Held}
-use Rattle.frame_word.specs.Seats.{KnownTable}
-use Rattle.boot_words.specs.{AllOf, KnownPasts, own_past, AreChangesOf, GainsSteps, GrewByAll}
+use Rattle.boot_words.specs.{AllOf, KnownPasts, own_past, AreChangesOf, GainsSteps, GrewByAll, KnownTable}
 use Rattle.group_tree.specs.Groups.{number_at}
 use Rattle.group_tree.specs.declared.fault.Fault.TheVariants.{NoGroup, PinsFull, NotPinned}
-use Rattle.step_rules.specs.State.{times}
+use Rattle.step_rules.specs.State.{times, most_pins}
 use Rattle.cpu_part.specs.declared.answers.Fast.{Fast as FastAnswer}
 use Rattle.cpu_part.specs.declared.answers.Fast.TheVariants.{Got}
 use Rattle.cpu_part.specs.declared.answers.Dropped.TheVariants as dropped
-use Rattle.cpu_part.specs.{most_pins, FastAnswers, DropAnswers, PinAnswers, StaysSo, UnpinAnswers}
+use Rattle.cpu_part.specs.{FastAnswers, DropAnswers, PinAnswers, StaysSo, UnpinAnswers}
 use Rattle.step_rules.specs.declared.step.Action.TheVariants as step
 use Rattle.step_rules.specs.declared.step.Answer.TheVariants as step_answer
-use Rattle.step_rules.specs.After.{Run}
+use Rattle.step_rules.specs.After.{Run, cpu_makes}
 use Rattle.step_watch.specs.Watched.{KnownWatch, Watches}
 use Rattle.machine_texts.specs.{explanation_text, blocks_text, show_text, stock_line_text}
-use Rattle.mem_machine.specs.{KnownMachine, left_by, with_run, with_unit_notes, with_watch, KnownRun}
-use Rattle.mem_machine.specs.Steps.{cpu_makes}
+use Rattle.mem_machine.specs.{KnownMachine, left_by, with_run, with_detail_notes, with_watch, KnownRun}
 use Rattle.mem_history.specs.{under_lock, put_answer}
 use Rattle.mem_system.specs.declared.command.LockedCommand.{LockedCommand}
 use Rattle.mem_system.specs.declared.command.LockedCommand.TheVariants as cmd
@@ -60,8 +58,8 @@ abbrev pub locked_with_run : KnownLocked → KnownRun → KnownLocked
 locked_with_run locked run = record locked { machine = with_run locked.machine run }
 
 -- the same behind the lock, with details noted from now on, or not
-abbrev pub locked_with_unit_notes : KnownLocked → (is_on : Bool) → KnownLocked
-locked_with_unit_notes locked is_on = record locked { machine = with_unit_notes locked.machine is_on }
+abbrev pub locked_with_detail_notes : KnownLocked → (is_on : Bool) → KnownLocked
+locked_with_detail_notes locked is_on = record locked { machine = with_detail_notes locked.machine is_on }
 
 -- the watch of the machine takes these steps, and nothing else changes behind the lock
 pub record OnlyWatched (steps : Run) (before after : KnownLocked) : Type 0 where
@@ -116,36 +114,36 @@ CanNotList frame before seen = IsNotFresh frame before seen ⊎ FindsDrained fra
 -- What a command is answered that the CPU carries out without the lock. Fast: what a fast allocation for the group
 -- returned. Get: one more pin on the frame; refused if pins and back frames together are as many as the CPU can have.
 -- Put: one pin less; refused if the CPU has no pin on the frame. Release: a fresh frame is listed again.
-abbrev pub AnswersAlone : Command → (before after : CpuInRun) → UnlockedAnswer → Type 0
-AnswersAlone (Fast group) before after (unlocked.Fast fast) =
+abbrev pub AnswersUnlocked : Command → (before after : CpuInRun) → UnlockedAnswer → Type 0
+AnswersUnlocked (Fast group) before after (unlocked.Fast fast) =
     FastAnswers group fast before.last before.part after.last after.part
-AnswersAlone (Get frame) before after (unlocked.Got got) =
+AnswersUnlocked (Get frame) before after (unlocked.Got got) =
     (length before.part.back + length before.part.pins < most_pins) × PinAnswers frame got before.part after.part
     × (after.last ≡ before.last)
-AnswersAlone (Get frame) before after (unlocked.Refused PinsFull) =
+AnswersUnlocked (Get frame) before after (unlocked.Refused PinsFull) =
     (length before.part.back + length before.part.pins ≡ most_pins) × CpuStays before after
-AnswersAlone (Put frame) before after (unlocked.Put put) =
+AnswersUnlocked (Put frame) before after (unlocked.Put put) =
     (1 ≤ times frame before.part.pins) × UnpinAnswers frame put before.part after.part × (after.last ≡ before.last)
-AnswersAlone (Put frame) before after (unlocked.Refused NotPinned) =
+AnswersUnlocked (Put frame) before after (unlocked.Refused NotPinned) =
     (times frame before.part.pins ≡ 0) × CpuStays before after
-AnswersAlone (Release frame) before after unlocked.Listed = ListsAgain frame before after
-AnswersAlone command before after answer = ⊥
+AnswersUnlocked (Release frame) before after unlocked.Listed = ListsAgain frame before after
+AnswersUnlocked command before after answer = ⊥
 
 -- the step of such an answer, if one was made
-abbrev pub steps_alone : (cpu : ℕ) → Command → UnlockedAnswer → Run
-steps_alone cpu (Fast group) (unlocked.Fast (Got frame)) = cpu_makes cpu (step.Consume group) step_answer.Took ∷ []
-steps_alone cpu (Get frame) (unlocked.Got Held) = cpu_makes cpu (step.Get frame) step_answer.Held ∷ []
-steps_alone cpu (Put frame) (unlocked.Put put) = cpu_makes cpu (step.Put frame) (put_answer put) ∷ []
-steps_alone cpu (Release frame) unlocked.Listed = cpu_makes cpu (step.Credit frame) step_answer.Stocked ∷ []
-steps_alone cpu command answer = []
+abbrev pub steps_unlocked : (cpu : ℕ) → Command → UnlockedAnswer → Run
+steps_unlocked cpu (Fast group) (unlocked.Fast (Got frame)) = cpu_makes cpu (step.Consume group) step_answer.Took ∷ []
+steps_unlocked cpu (Get frame) (unlocked.Got Held) = cpu_makes cpu (step.Get frame) step_answer.Held ∷ []
+steps_unlocked cpu (Put frame) (unlocked.Put put) = cpu_makes cpu (step.Put frame) (put_answer put) ∷ []
+steps_unlocked cpu (Release frame) unlocked.Listed = cpu_makes cpu (step.Credit frame) step_answer.Stocked ∷ []
+steps_unlocked cpu command answer = []
 
 -- the step of what was tried without the lock; without an answer there is none
 abbrev pub steps_tried : (cpu : ℕ) → Command → Option UnlockedAnswer → Run
 steps_tried cpu command None = []
-steps_tried cpu command (Some answer) = steps_alone cpu command answer
+steps_tried cpu command (Some answer) = steps_unlocked cpu command answer
 
--- The CPU of this number makes steps alone. They are these, apart from steps that change nothing.
-pub record MakesAlone (cpu : ℕ) (steps : Run) (before after : KnownPasts) : Type 0 where
+-- The CPU of this number makes steps without the lock. They are these, apart from steps that change nothing.
+pub record MakesUnlocked (cpu : ℕ) (steps : Run) (before after : KnownPasts) : Type 0 where
   pub made : Run
   pub grew : GrewByAll (own_past before) made (own_past after)
   pub changes : AreChangesOf made steps
@@ -174,7 +172,7 @@ pub record GetsFast (path : List ℕ) (before : LockedState) (after : CpuInRun) 
 -- a frame was got without the lock, by the step of a Fast for the group
 pub record AllocatesFast (path : List ℕ) (frame : ℕ) (call : Transition LockedState) : Type 0 where
   pub gets : GetsFast path call.before call.after.cpu frame
-  pub alone : TakesNoLock (steps_alone call.before.cpu.part.number (Fast gets.group) (unlocked.Fast (Got frame))) call
+  pub takes_no_lock : TakesNoLock (steps_unlocked call.before.cpu.part.number (Fast gets.group) (unlocked.Fast (Got frame))) call
 
 -- A group has the path, but a call that takes no lock got no frame for it. `seen` is the CPU after this call.
 pub record GetsNoneFast (path : List ℕ) (before : LockedState) (seen : CpuInRun) : Type 0 where
@@ -186,13 +184,13 @@ pub record GetsNoneFast (path : List ℕ) (before : LockedState) (seen : CpuInRu
 
 -- What a command is answered without the lock, by which steps. An Alloc of a single frame is, if no group has the path,
 -- or if the CPU got a frame of its list.
-abbrev pub AnswersUnlocked : Command → Transition LockedState → UnlockedAnswer → Type 0
-AnswersUnlocked (Alloc path zero) call (unlocked.Fast (Got frame)) = AllocatesFast path.now frame call
-AnswersUnlocked (Alloc path zero) call (unlocked.Refused NoGroup) =
+abbrev pub ServesUnlocked : Command → Transition LockedState → UnlockedAnswer → Type 0
+ServesUnlocked (Alloc path zero) call (unlocked.Fast (Got frame)) = AllocatesFast path.now frame call
+ServesUnlocked (Alloc path zero) call (unlocked.Refused NoGroup) =
     FindsNoGroup path.now call.before call.after × (call.steps ≡ [])
-AnswersUnlocked command call answer =
-    AnswersAlone command call.before.cpu call.after.cpu answer
-    × TakesNoLock (steps_alone call.before.cpu.part.number command answer) call
+ServesUnlocked command call answer =
+    AnswersUnlocked command call.before.cpu call.after.cpu answer
+    × TakesNoLock (steps_unlocked call.before.cpu.part.number command answer) call
 
 -- ---- under the lock
 
@@ -222,7 +220,7 @@ pub record IsServedUnderLock (is_explained : Bool) (command : Command) (answer :
   pub found : KnownLocked
   pub left : KnownLocked
   pub lock : OnlyWatched (cpu_makes call.before.cpu.part.number step.Lock step_answer.Done ∷ [])
-      (locked_with_unit_notes call.before.locked is_explained) found
+      (locked_with_detail_notes call.before.locked is_explained) found
   pub answers : AnswersLocked call.table command answer
       (locked_state found call.before.cpu) (locked_state left call.after.cpu)
   pub unlock : OnlyWatched (cpu_makes call.before.cpu.part.number step.Unlock step_answer.Done ∷ [])
@@ -256,13 +254,13 @@ pub record RepliesServed (is_explained : Bool) (command : Command) (reply : Repl
 abbrev pub AnswersCommand : (is_explained : Bool) → Command → Transition LockedState → LineAnswer → Type 0
 AnswersCommand is_explained command call (answer.Served reply) = RepliesServed is_explained command reply call
 AnswersCommand is_explained command call answer.Settled = IsServedUnderLock is_explained command answer.Settled call
-AnswersCommand is_explained command call (answer.Unlocked said) = AnswersUnlocked command call said
+AnswersCommand is_explained command call (answer.Unlocked said) = ServesUnlocked command call said
 
 -- the answer of a command, by some steps
 pub record ServesAnswer (terms : Terms) (command : Command) (before after : LockedState) (answer : LineAnswer)
     : Type 0 where
   pub steps : Run
-  pub answered : AnswersCommand terms.is_explained command (transition terms.frames before steps after) answer
+  pub answered : AnswersCommand terms.is_explained command (transition terms.table before steps after) answer
   pub gains : Gains steps before after
 
 -- ---- the text of an answer
@@ -318,5 +316,5 @@ pub record WritesCommand (is_explained : Bool) (command : Command) (call : Trans
 pub record ServesCommand (terms : Terms) (command : Command) (before after : LockedState) (text : List ℕ)
     : Type 0 where
   pub steps : Run
-  pub writes : WritesCommand terms.is_explained command (transition terms.frames before steps after) text
+  pub writes : WritesCommand terms.is_explained command (transition terms.table before steps after) text
   pub gains : Gains steps before after

@@ -25,27 +25,27 @@ abbrev pub told_cpu : CpuInRun → Run → ToldCpu
 told_cpu cpu told = record { cpu = cpu; told = told }
 
 -- the command is answered with this text, and its steps are told after those before
-pub record TellsCommand (tables : KnownSystem) (command : Command) (before after : ToldCpu) (text : List ℕ)
+pub record TellsCommand (system : KnownSystem) (command : Command) (before after : ToldCpu) (text : List ℕ)
     : Type 0 where
   pub steps : Run
-  pub visits : VisitsBySteps tables command steps before.cpu after.cpu text
+  pub visits : VisitsBySteps system command steps before.cpu after.cpu text
   pub told : after.told ≡ before.told ++ steps
 
 -- a line of the CPU of this number is answered with this text on its part, with its number if that is asked for; any
 -- other line is skipped
 abbrev pub ServesOwnLine : KnownSystem → (is_numbered : Bool) (own : ℕ) → Line → (before after : ToldCpu)
     (text : List ℕ) → Type 0
-ServesOwnLine tables is_numbered own Go before after text = (text ≡ []) × (after ≡ before)
-ServesOwnLine tables is_numbered own (At number cpu command) before after text =
-    MatchBool (cpu == own) (SaysNumbered is_numbered number (TellsCommand tables command before after) text)
+ServesOwnLine system is_numbered own Go before after text = (text ≡ []) × (after ≡ before)
+ServesOwnLine system is_numbered own (At number cpu command) before after text =
+    MatchBool (cpu == own) (SaysNumbered is_numbered number (TellsCommand system command before after) text)
     ((text ≡ []) × (after ≡ before))
 
 -- the line is answered or skipped by these steps, whatever was told before, and the CPU's past has grown by them
-pub record ServesOwnBySteps (tables : KnownSystem) (is_numbered : Bool) (own : ℕ) (line : Line)
+pub record ServesOwnBySteps (system : KnownSystem) (is_numbered : Bool) (own : ℕ) (line : Line)
     (before after : CpuInRun) (text : List ℕ) : Type 0 where
   pub steps : Run
   pub serves : (told : Run)
-      → ServesOwnLine tables is_numbered own line (told_cpu before told) (told_cpu after (told ++ steps)) text
+      → ServesOwnLine system is_numbered own line (told_cpu before told) (told_cpu after (told ++ steps)) text
   pub grew : GrewByChanges before.past steps after.past
 
 -- a worker: the number of its CPU, its part at the start, all lines, of which it serves its own, and whether their
@@ -67,8 +67,8 @@ worker cpu_number before lines is_numbered = record {
 
 -- The worker's own lines are answered one after another, from its part at the start to the part that it left, by these
 -- steps. The CPU's past has grown by them.
-pub record ServesOwn (tables : KnownSystem) (worker : KnownWorker) (after : CpuInRun) (told : Run) (text : List ℕ)
+pub record ServesOwn (system : KnownSystem) (worker : KnownWorker) (after : CpuInRun) (told : Run) (text : List ℕ)
     : Type 0 where
-  pub serves : InOrder (ServesOwnLine tables worker.is_numbered worker.cpu_number) worker.lines
+  pub serves : InOrder (ServesOwnLine system worker.is_numbered worker.cpu_number) worker.lines
       (told_cpu worker.before []) (told_cpu after told) text
   pub grew : GrewByChanges worker.before.past told after.past

@@ -64,9 +64,9 @@ WritesLineOnTerms terms line call text =
 -- the answer of a line, as text, by some steps; what is left behind the lock is sound
 pub record ServesLine (terms : Terms) (line : Line) (before after : SystemState) (text : List ℕ) : Type 0 where
   pub steps : Run
-  pub tells : WritesLineOnTerms terms line (transition terms.frames before steps after) text
+  pub tells : WritesLineOnTerms terms line (transition terms.table before steps after) text
   pub goes_on : RunGoesOn steps before after
-  pub sound : IsSound terms.frames after.locked
+  pub sound : IsSound terms.table after.locked
 
 -- the first line leads to a state between, the other lines lead on from there, and the text is that of the first line
 -- followed by that of the rest

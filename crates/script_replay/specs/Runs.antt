@@ -19,12 +19,12 @@ lines_before_go lines = go_or 0 0 lines
 
 -- The lines before `go` are answered one after another. Then a worker for each part, as it was left, answers those
 -- from `go` on. The answers of the early lines come first. The workers left these CPUs, and made these steps.
-pub record RunsLines (tables : KnownSystem) (lines : List Line) (before after : List CpuInRun) (told : List Run)
+pub record RunsLines (system : KnownSystem) (lines : List Line) (before after : List CpuInRun) (told : List Run)
     (text : List ℕ) : Type 0 where
   pub early : List ℕ
   pub later : List ℕ
   pub parts : List CpuInRun
-  pub visits : VisitsAll tables (take (lines_before_go lines) lines) before parts early
-  pub are_answers : AreAllAnswers tables (workers_from 1 parts (drop (lines_before_go lines) lines) false) after told
+  pub visits : VisitsAll system (take (lines_before_go lines) lines) before parts early
+  pub are_answers : AreAllAnswers system (workers_from 1 parts (drop (lines_before_go lines) lines) false) after told
       later
   pub text_is : text ≡ early ++ later

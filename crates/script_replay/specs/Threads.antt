@@ -19,8 +19,8 @@ heading cpu_number = codes "cpu " ++ decimal cpu_number ++ codes "\n"
 -- For each worker a heading, followed by the answers of its own lines. Each left this CPU, and made these steps.
 abbrev pub AreAllAnswers : KnownSystem → List KnownWorker → (after : List CpuInRun) (told : List Run) (text : List ℕ)
     → Type 0
-AreAllAnswers tables [] [] [] text = text ≡ []
-AreAllAnswers tables (worker ∷ workers) (cpu ∷ cpus) (steps ∷ told) text =
-    (own : List ℕ) × (others : List ℕ) × ServesOwn tables worker cpu steps own
-    × AreAllAnswers tables workers cpus told others × (text ≡ (heading worker.cpu_number ++ own) ++ others)
-AreAllAnswers tables workers cpus told text = ⊥
+AreAllAnswers system [] [] [] text = text ≡ []
+AreAllAnswers system (worker ∷ workers) (cpu ∷ cpus) (steps ∷ told) text =
+    (own : List ℕ) × (others : List ℕ) × ServesOwn system worker cpu steps own
+    × AreAllAnswers system workers cpus told others × (text ≡ (heading worker.cpu_number ++ own) ++ others)
+AreAllAnswers system workers cpus told text = ⊥

@@ -1,7 +1,7 @@
 -- What a command of a CPU does whose answer is a value, and not a text.
 use Rattle.std.specs.Prelude.{ℕ, false, [], ◌∷◌}
 use Rattle.group_charge.specs.Charges.{Ledger}
-use Rattle.frame_word.specs.Seats.{KnownTable}
+use Rattle.boot_words.specs.Tables.{KnownTable}
 use Rattle.mem_system.specs.{HasItsGroups, reply_of, locked_state}
 use Rattle.reply_texts.specs.LineAnswer.{LineAnswer}
 use Rattle.reply_texts.specs.LineAnswer as answer

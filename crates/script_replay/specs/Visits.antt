@@ -19,7 +19,7 @@ use Rattle.script_lines.specs.declared.line.Command.TheVariants.{Alloc, Fast}
 use Rattle.step_rules.specs.After.{Run}
 use Rattle.script_lines.specs.declared.line.Line.{Line}
 use Rattle.script_lines.specs.declared.line.Line.TheVariants.{Go, At}
-use Rattle.script_replay.specs.Answers.{AnswersAlone, AnswersLocked, GetsFast, GetsNoneFast, MakesAlone, IsAnswerText, NeedsLock, steps_alone}
+use Rattle.script_replay.specs.Answers.{AnswersUnlocked, AnswersLocked, GetsFast, GetsNoneFast, MakesUnlocked, IsAnswerText, NeedsLock, steps_unlocked}
 use Rattle.script_replay.specs.Commands.{OnlySettles}
 use Rattle.script_replay.specs.Lines.{AtPart, InOrder}
 
@@ -36,94 +36,94 @@ pub record GrewByChanges (before : KnownPasts) (steps : Run) (after : KnownPasts
 pub record GetsFastBySteps (path : List ℕ) (steps : Run) (before : LockedState) (after : CpuInRun) (frame : ℕ)
     : Type 0 where
   pub gets : GetsFast path before after frame
-  pub steps_are : steps ≡ steps_alone before.cpu.part.number (Fast gets.group) (unlocked.Fast (Got frame))
+  pub steps_are : steps ≡ steps_unlocked before.cpu.part.number (Fast gets.group) (unlocked.Fast (Got frame))
 
 -- What a command is answered without a visit. The group of an Alloc of a single frame is found under the lock, by the
 -- run that the CPU has seen then (`met`). If there is none, the command is refused; else the CPU may get a frame of its
 -- list without the lock.
 abbrev pub AnswersWithoutVisit : KnownSystem → Command → (steps : Run) (before after : CpuInRun) → UnlockedAnswer
     → Type 0
-AnswersWithoutVisit tables (Alloc path zero) steps before after (unlocked.Fast (Got frame)) =
-    (met : CpuInRun) × SeenBehindLock tables.frames
+AnswersWithoutVisit system (Alloc path zero) steps before after (unlocked.Fast (Got frame)) =
+    (met : CpuInRun) × SeenBehindLock system.table
     (λ locked. GetsFastBySteps path.now steps (locked_state locked met) after frame) before met
-AnswersWithoutVisit tables (Alloc path zero) steps before after (unlocked.Refused NoGroup) =
-    SeenBehindLock tables.frames
+AnswersWithoutVisit system (Alloc path zero) steps before after (unlocked.Refused NoGroup) =
+    SeenBehindLock system.table
     (λ locked. number_at locked.machine.ledger.groups path.now ≡ None) before after × (steps ≡ [])
-AnswersWithoutVisit tables command steps before after answer =
-    AnswersAlone command before after answer × (steps ≡ steps_alone before.part.number command answer)
+AnswersWithoutVisit system command steps before after answer =
+    AnswersUnlocked command before after answer × (steps ≡ steps_unlocked before.part.number command answer)
 
 -- a command was answered without a visit, by some steps, by which the CPU's past has grown
-pub record AnswersAloneBySteps (tables : KnownSystem) (command : Command) (before after : CpuInRun)
+pub record AnswersWithoutVisitBySteps (system : KnownSystem) (command : Command) (before after : CpuInRun)
     (answer : UnlockedAnswer) : Type 0 where
   pub steps : Run
-  pub answers : AnswersWithoutVisit tables command steps before after answer
+  pub answers : AnswersWithoutVisit system command steps before after answer
   pub grew : GrewByChanges before.past steps after.past
 
 -- A group has the path: it was found under the lock, which left the CPU `met`. Then a call that takes no lock got no
 -- frame for it, and left the CPU `seen` by steps that change nothing.
-pub record TriesFrame (tables : KnownSystem) (path : List ℕ) (before seen : CpuInRun) : Type 0 where
+pub record TriesFrame (system : KnownSystem) (path : List ℕ) (before seen : CpuInRun) : Type 0 where
   pub met : CpuInRun
-  pub found : SeenBehindLock tables.frames
+  pub found : SeenBehindLock system.table
       (λ locked. GetsNoneFast path (locked_state locked met) seen) before met
-  pub alone : MakesAlone before.part.number [] met.past seen.past
+  pub makes : MakesUnlocked before.part.number [] met.past seen.past
 
 -- what was tried for a command without a visit gave no answer, and left the CPU `seen` by steps that change nothing
 abbrev pub TriesInVain : KnownSystem → Command → (before seen : CpuInRun) → Type 0
-TriesInVain tables (Alloc path zero) before seen = TriesFrame tables path.now before seen
-TriesInVain tables command before seen =
-    NeedsLock command before seen × MakesAlone before.part.number [] before.past seen.past
+TriesInVain system (Alloc path zero) before seen = TriesFrame system path.now before seen
+TriesInVain system command before seen =
+    NeedsLock command before seen × MakesUnlocked before.part.number [] before.past seen.past
 
 -- the command is served by a visit, after tries that left the CPU `seen`
-pub record NeedsVisit (tables : KnownSystem) (command : Command) (before seen : CpuInRun) : Type 0 where
-  pub tried : TriesInVain tables command before seen
+pub record NeedsVisit (system : KnownSystem) (command : Command) (before seen : CpuInRun) : Type 0 where
+  pub tried : TriesInVain system command before seen
   pub grew : GrewByChanges before.past [] seen.past
   pub untried : OnlySettles command → seen ≡ before
 
 -- The command was served by a visit, which found the sizes of the boot: the steps are the Lock, those of the visit, and
 -- the Unlock. The text of its answer was written from what it left, before another visit could begin.
-pub record WritesByVisit (tables : KnownSystem) (command : Command) (steps : Run) (before after : CpuInRun)
+pub record WritesByVisit (system : KnownSystem) (command : Command) (steps : Run) (before after : CpuInRun)
     (text : List ℕ) : Type 0 where
   pub answer : LineAnswer
-  pub visited : IsVisited tables.frames tables.sizes (AnswersLocked tables.frames command answer)
+  pub visited : IsVisited system.table system.sizes (AnswersLocked system.table command answer)
       before after
   pub steps_are : steps ≡ between_locks before.part.number visited.served.served.steps
-  pub told : IsAnswerText tables.frames false command answer text (locked_state visited.left after)
+  pub told : IsAnswerText system.table false command answer text (locked_state visited.left after)
 
 -- the text of a command that was answered without a visit
-pub record SaysAlone (tables : KnownSystem) (command : Command) (steps : Run) (before after : CpuInRun)
+pub record SaysWithoutVisit (system : KnownSystem) (command : Command) (steps : Run) (before after : CpuInRun)
     (text : List ℕ) : Type 0 where
   pub said : UnlockedAnswer
-  pub answers : AnswersWithoutVisit tables command steps before after said
+  pub answers : AnswersWithoutVisit system command steps before after said
   pub text_is : text ≡ answer_text (answer.Unlocked said)
 
 -- The text of a command that was tried in vain. The visit may find another value behind the lock than the try did.
-pub record SaysByVisit (tables : KnownSystem) (command : Command) (steps : Run) (before after : CpuInRun)
+pub record SaysByVisit (system : KnownSystem) (command : Command) (steps : Run) (before after : CpuInRun)
     (text : List ℕ) : Type 0 where
   pub seen : CpuInRun
-  pub needs : NeedsVisit tables command before seen
-  pub writes : WritesByVisit tables command steps seen after text
+  pub needs : NeedsVisit system command before seen
+  pub writes : WritesByVisit system command steps seen after text
 
 -- the answer of a script's command for a CPU, as text, and the CPU after it
 abbrev pub VisitsCommand : KnownSystem → Command → (steps : Run) (before after : CpuInRun) (text : List ℕ) → Type 0
-VisitsCommand tables command steps before after text =
-    SaysAlone tables command steps before after text ⊎ SaysByVisit tables command steps before after text
+VisitsCommand system command steps before after text =
+    SaysWithoutVisit system command steps before after text ⊎ SaysByVisit system command steps before after text
 
 -- the answer of a command, as text, by these steps, by which the CPU's past has grown
-pub record VisitsBySteps (tables : KnownSystem) (command : Command) (steps : Run) (before after : CpuInRun)
+pub record VisitsBySteps (system : KnownSystem) (command : Command) (steps : Run) (before after : CpuInRun)
     (text : List ℕ) : Type 0 where
-  pub tells : VisitsCommand tables command steps before after text
+  pub tells : VisitsCommand system command steps before after text
   pub grew : GrewByChanges before.past steps after.past
 
 -- the answer of a command, as text, by some steps
 abbrev pub ServesByVisits : KnownSystem → Command → (before after : CpuInRun) (text : List ℕ) → Type 0
-ServesByVisits tables command before after text = (steps : Run) × VisitsBySteps tables command steps before after text
+ServesByVisits system command before after text = (steps : Run) × VisitsBySteps system command steps before after text
 
 -- the answer of a line, as text; `go` has no answer and does nothing
 abbrev pub VisitsLine : KnownSystem → Line → (before after : List CpuInRun) (text : List ℕ) → Type 0
-VisitsLine tables Go before after text = (text ≡ []) × (after ≡ before)
-VisitsLine tables (At number cpu command) before after text =
-    AtPart cpu (λ part left. ServesByVisits tables command part left text) before after
+VisitsLine system Go before after text = (text ≡ []) × (after ≡ before)
+VisitsLine system (At number cpu command) before after text =
+    AtPart cpu (λ part left. ServesByVisits system command part left text) before after
 
 -- the answers of lines, served by visits one after the other
 abbrev pub VisitsAll : KnownSystem → List Line → (before after : List CpuInRun) (text : List ℕ) → Type 0
-VisitsAll tables lines before after text = InOrder (VisitsLine tables) lines before after text
+VisitsAll system lines before after text = InOrder (VisitsLine system) lines before after text

@@ -30,9 +30,9 @@ pub fn serve_value<N: BootName>(
     cpu: u32,
     command: &Command<'_>,
 ) -> AnswerValue
-    requires there { CpuCommandInRange N.frames.frames (length cpus.old) cpu command.now }
+    requires there { CpuCommandInRange N.table.frames (length cpus.old) cpu command.now }
     requires has_value { HasValueAnswer command.now }
-    ensures answer { SaysCommand N.frames cpu command.now
+    ensures answer { SaysCommand N.table cpu command.now
         (system_state locked.old cpus.old) (system_state locked.new cpus.new)
         (answer_of locked.new.machine.ledger result) }
     ensures groups { NamesItsGroups locked.new.machine.ledger result }
@@ -57,7 +57,7 @@ pub fn alloc_value<N: BootName>(
     requires high { cpu ≤ length cpus.old }
     requires there { IsTrue (has_group locked.old.machine.ledger.groups group) }
     ensures answer { (path : Bor (List ℕ)) → number_at locked.old.machine.ledger.groups path.now ≡ Some group
-        → SaysCommand N.frames cpu (Alloc path 0)
+        → SaysCommand N.table cpu (Alloc path 0)
         (system_state locked.old cpus.old) (system_state locked.new cpus.new)
         (answer_of locked.new.machine.ledger result) }
     ensures groups { NamesItsGroups locked.new.machine.ledger result }

@@ -3,7 +3,7 @@
 ghost use Rattle.std.specs.Prelude.{All, IfOk};
 ghost use Rattle.std.specs.String.{string_bytes};
 ghost use Rattle.script_replay.specs.Answers.{AddsText};
-ghost use Rattle.script_replay.specs.Terms.{boot_tables};
+ghost use Rattle.script_replay.specs.Terms.{known_system};
 ghost use Rattle.script_replay.specs.CpuLines.{LineCommandInRange, ServesOwn, ServesOwnBySteps, worker};
 ghost use Rattle.step_rules.specs.After.{Run};
 
@@ -31,9 +31,9 @@ pub(crate) fn serve_own<N: BootName, R: Wait, G: Gate>(
     cpu_number: u32,
     cpu: &mut Cpu<N>,
 ) -> Result<String, AllocError>
-    requires { All (LineCommandInRange N.frames.frames) job.now.lines.now }
+    requires { All (LineCommandInRange N.table.frames) job.now.lines.now }
     ensures { IfOk result (λ text. (told : Run)
-        × ServesOwn (boot_tables N.frames job.now.visitor.system.now.sizes)
+        × ServesOwn (known_system N.table job.now.visitor.system.now.sizes)
         (worker cpu_number cpu.old job.now.lines.now job.now.is_numbered) cpu.new told (string_bytes text)) }
 {
     let mut text = String::new(job.alloc);
@@ -51,9 +51,9 @@ fn serve_own_line<N: BootName, R: Wait, G: Gate>(
     line: &Line<'_>,
     text: &mut String,
 ) -> Result<(), AllocError>
-    requires { LineCommandInRange N.frames.frames line.now }
+    requires { LineCommandInRange N.table.frames line.now }
     ensures { AddsText result text.old text.new
-        (ServesOwnBySteps (boot_tables N.frames job.now.visitor.system.now.sizes) job.now.is_numbered
+        (ServesOwnBySteps (known_system N.table job.now.visitor.system.now.sizes) job.now.is_numbered
         cpu_number line.now cpu.old cpu.new) }
 {
     match line {

@@ -3,14 +3,14 @@
 ghost use Rattle.std.specs.Prelude.{◌≡◌, ◌∷◌, [], IsTrue, List, None, Some, ℕ};
 ghost use Rattle.std.specs.Borrow.{Bor};
 ghost use Rattle.group_tree.specs.Groups.{has_group, number_at};
+ghost use Rattle.step_rules.specs.After.{cpu_makes};
 ghost use Rattle.boot_words.specs.Pasts.{own_past};
 ghost use Rattle.step_rules.specs.declared.step.Action.TheVariants.{Lock, Unlock};
 ghost use Rattle.step_rules.specs.declared.step.Answer.TheVariants.{Done};
 ghost use Rattle.mem_machine.specs.Showing.{stock_left};
-ghost use Rattle.mem_machine.specs.Steps.{cpu_makes};
 ghost use Rattle.mem_system.specs.Visits.{locked_state};
 ghost use Rattle.script_lines.specs.declared.line.Command.TheVariants.{Alloc};
-ghost use Rattle.script_replay.specs.Answers.{AnswersLocked, OnlyWatched, ServesUnderLock, locked_with_unit_notes};
+ghost use Rattle.script_replay.specs.Answers.{AnswersLocked, OnlyWatched, ServesUnderLock, locked_with_detail_notes};
 ghost use Rattle.script_replay.specs.Commands.{OnlySettles, locked_command_of};
 ghost use Rattle.script_replay.specs.Ranges.{CommandInRange};
 ghost use Rattle.script_replay.specs.ValueAnswers.{NamesItsGroups, answer_of};
@@ -36,19 +36,20 @@ fn watch_lock<N: BootName>(locked: &mut Locked<N>, cpu: u32)
     locked.take_step(cpu, Action::Lock, Answer::Done);
 }
 
-// This CPU takes the lock for a command. Details are noted from now on exactly if the command is explained.
+// The watch takes the step by which this CPU gets the lock for a command. Details are noted from now on exactly if the
+// command is explained.
 #[inline(always)]
 fn begin_command<N: BootName>(locked: &mut Locked<N>, cpu: u32, is_explained: bool)
-    ensures watched { OnlyWatched (cpu_makes cpu Lock Done ∷ []) (locked_with_unit_notes locked.old is_explained)
+    ensures watched { OnlyWatched (cpu_makes cpu Lock Done ∷ []) (locked_with_detail_notes locked.old is_explained)
         locked.new }
     ensures zone { (own_past locked.old.machine.run.past).number ≡ 0 }
 {
     locked.prove_quiet();
-    locked.set_unit_notes(is_explained);
+    locked.set_detail_notes(is_explained);
     watch_lock(locked, cpu);
 }
 
-// The CPU of this number releases the lock.
+// The watch takes the step by which the CPU of this number gives the lock back.
 #[inline(always)]
 #[tactic(auto, using(crate::proofs::Taking::unwatched))]
 fn end_command<N: BootName>(locked: &mut Locked<N>, cpu: u32)
@@ -60,7 +61,8 @@ fn end_command<N: BootName>(locked: &mut Locked<N>, cpu: u32)
     locked.take_step(cpu, Action::Unlock, Answer::Done);
 }
 
-// Serves a command, whose CPU holds the lock: carries out its `LockedCommand`, or only settles the CPU.
+// Serves a command while no other CPU can: carries out its `LockedCommand`, or only settles the CPU. In the run the
+// CPU takes the lock and gives it back here.
 #[inline(always)]
 #[tactic(auto, using(crate::proofs::InRange::locked_command_in_zone))]
 pub(crate) fn serve_locked<N: BootName>(
@@ -69,12 +71,12 @@ pub(crate) fn serve_locked<N: BootName>(
     cpu: &mut Cpu<N>,
     command: &Command<'_>,
 ) -> AnswerValue
-    requires in_range { CommandInRange N.frames.frames command.now }
+    requires in_range { CommandInRange N.table.frames command.now }
     requires settles { locked_command_of command.now ≡ None → OnlySettles command.now }
-    ensures answers { AnswersLocked N.frames command.now (answer_of locked.new.machine.ledger result)
+    ensures answers { AnswersLocked N.table command.now (answer_of locked.new.machine.ledger result)
         (locked_state locked.old cpu.old) (locked_state locked.new cpu.new) }
     ensures groups { NamesItsGroups locked.new.machine.ledger result }
-    ensures last { cpu.new.last ≡ stock_left N.frames locked.new.machine cpu.new.part.number }
+    ensures last { cpu.new.last ≡ stock_left N.table locked.new.machine cpu.new.part.number }
 {
     match locked_command_of(command) {
         Some(cmd) => AnswerValue::Served(serve_outcome(locked, tables, cpu, &cmd)),
@@ -94,12 +96,12 @@ pub(crate) fn serve_under_lock<N: BootName>(
     command: &Command<'_>,
     is_explained: bool,
 ) -> AnswerValue
-    requires in_range { CommandInRange N.frames.frames command.now }
+    requires in_range { CommandInRange N.table.frames command.now }
     requires settles { locked_command_of command.now ≡ None → OnlySettles command.now }
-    ensures served { ServesUnderLock N.frames is_explained command.now (answer_of locked.new.machine.ledger result)
+    ensures served { ServesUnderLock N.table is_explained command.now (answer_of locked.new.machine.ledger result)
         (locked_state locked.old cpu.old) (locked_state locked.new cpu.new) }
     ensures groups { NamesItsGroups locked.new.machine.ledger result }
-    ensures last { cpu.new.last ≡ stock_left N.frames locked.new.machine cpu.new.part.number }
+    ensures last { cpu.new.last ≡ stock_left N.table locked.new.machine cpu.new.part.number }
 {
     let cpu_number = cpu.number();
     begin_command(locked, cpu_number, is_explained);
@@ -119,10 +121,10 @@ pub(crate) fn serve_frame_under_lock<N: BootName>(
 ) -> AnswerValue
     requires there { IsTrue (has_group locked.old.machine.ledger.groups group) }
     ensures served { (path : Bor (List ℕ)) → number_at locked.old.machine.ledger.groups path.now ≡ Some group
-        → ServesUnderLock N.frames is_explained (Alloc path 0) (answer_of locked.new.machine.ledger result)
+        → ServesUnderLock N.table is_explained (Alloc path 0) (answer_of locked.new.machine.ledger result)
         (locked_state locked.old cpu.old) (locked_state locked.new cpu.new) }
     ensures groups { NamesItsGroups locked.new.machine.ledger result }
-    ensures last { cpu.new.last ≡ stock_left N.frames locked.new.machine cpu.new.part.number }
+    ensures last { cpu.new.last ≡ stock_left N.table locked.new.machine cpu.new.part.number }
 {
     let cpu_number = cpu.number();
     begin_command(locked, cpu_number, is_explained);

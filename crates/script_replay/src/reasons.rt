@@ -31,7 +31,7 @@ pub(crate) fn write_reason<N: BootName>(
     value: &AnswerValue,
     text: &mut String,
 ) -> Result<(), AllocError>
-    requires in_range { CommandInRange N.frames.frames command.now }
+    requires in_range { CommandInRange N.table.frames command.now }
     requires groups { NamesItsGroups locked.now.machine.ledger value.now }
     ensures { IfOk result (λ _. string_bytes text.new ≡ string_bytes text.old
         ++ refusal_reason_text (fault_in (answer_of locked.now.machine.ledger value.now))
@@ -78,7 +78,7 @@ fn borrower_of<N: BootName>(
     tables: &Tables<N>,
     head: Option<u32>,
 ) -> Option<u32>
-    requires { IfSome head (λ frame. frame < N.frames.frames) }
+    requires { IfSome head (λ frame. frame < N.table.frames) }
     ensures { result ≡ borrower_of head machine.now }
 {
     let Some(number) = head else {

@@ -29,8 +29,8 @@ pub fn replay<N: BootName>(
     lines: &[Line<'_>],
     form: Form,
 ) -> Result<Vec<u8>, AllocError>
-    requires there { All (LineInRange N.frames.frames (length cpus.old)) lines.now }
-    ensures outcome { ReplaysOrStops (form_terms N.frames form) lines.now
+    requires there { All (LineInRange N.table.frames (length cpus.old)) lines.now }
+    ensures outcome { ReplaysOrStops (form_terms N.table form) lines.now
         (system_state locked.old cpus.old) (system_state locked.new cpus.new) result }
 {
     let mut answers = String::new(alloc);
@@ -67,9 +67,9 @@ pub fn replay_checked<N: BootName>(
     lines: &[Line<'_>],
     form: Form,
 ) -> Result<Vec<u8>, Stopped>
-    requires there { All (LineInRange N.frames.frames (length cpus.old)) lines.now }
+    requires there { All (LineInRange N.table.frames (length cpus.old)) lines.now }
     requires legal { has_legal_steps locked.old.machine.run.watch ≡ true }
-    ensures outcome { ReplaysCheckedOrStops (form_terms N.frames form) lines.now
+    ensures outcome { ReplaysCheckedOrStops (form_terms N.table form) lines.now
         (system_state locked.old cpus.old) (system_state locked.new cpus.new) result }
 {
     let mut answers = String::new(alloc);
@@ -103,9 +103,9 @@ fn serve_in_form<N: BootName>(
     form: Form,
     answers: &mut String,
 ) -> Result<(), AllocError>
-    requires there { LineInRange N.frames.frames (length cpus.old) line.now }
+    requires there { LineInRange N.table.frames (length cpus.old) line.now }
     ensures served { AddsText result answers.old answers.new
-        (ServesLine (form_terms N.frames form) line.now
+        (ServesLine (form_terms N.table form) line.now
         (system_state locked.old cpus.old) (system_state locked.new cpus.new)) }
 {
     if form.is_numbered {
@@ -133,9 +133,9 @@ fn serve_numbered<N: BootName>(
     is_explained: bool,
     answers: &mut String,
 ) -> Result<(), AllocError>
-    requires there { LineInRange N.frames.frames (length cpus.old) line.now }
+    requires there { LineInRange N.table.frames (length cpus.old) line.now }
     ensures served { AddsText result answers.old answers.new
-        (ServesLine (numbered_terms N.frames is_explained true) line.now
+        (ServesLine (numbered_terms N.table is_explained true) line.now
         (system_state locked.old cpus.old) (system_state locked.new cpus.new)) }
 {
     let mut plain = String::new(alloc);
@@ -154,9 +154,9 @@ pub fn serve_line<N: BootName>(
     is_explained: bool,
     answers: &mut String,
 ) -> Result<(), AllocError>
-    requires there { LineInRange N.frames.frames (length cpus.old) line.now }
+    requires there { LineInRange N.table.frames (length cpus.old) line.now }
     ensures served { AddsText result answers.old answers.new
-        (ServesLine (terms N.frames is_explained) line.now
+        (ServesLine (terms N.table is_explained) line.now
         (system_state locked.old cpus.old) (system_state locked.new cpus.new)) }
 {
     match line {
@@ -187,11 +187,11 @@ fn serve_at_cpu<N: BootName>(
     is_explained: bool,
     answers: &mut String,
 ) -> Result<(), AllocError>
-    requires in_range { CommandInRange N.frames.frames command.now }
+    requires in_range { CommandInRange N.table.frames command.now }
     ensures answered { AddsText result answers.old answers.new
-        (ServesCommand (terms N.frames is_explained) command.now
+        (ServesCommand (terms N.table is_explained) command.now
         (locked_state locked.old cpu.old) (locked_state locked.new cpu.new)) }
-    ensures sound { IsSound N.frames locked.new }
+    ensures sound { IsSound N.table locked.new }
 {
     let value = serve_command(locked, tables, cpu, command, is_explained);
     let written = write_answer(locked, tables, cpu, command, &value, is_explained, answers);
@@ -201,7 +201,7 @@ fn serve_at_cpu<N: BootName>(
 
 // Shows what always holds behind the lock. It does nothing.
 pub(crate) fn prove_sound<N: BootName>(locked: &Locked<N>)
-    ensures { IsSound N.frames locked.now }
+    ensures { IsSound N.table locked.now }
 {
     locked.prove_quiet();
 }

@@ -33,12 +33,12 @@ pub(crate) fn serve_command<N: BootName>(
     command: &Command<'_>,
     is_explained: bool,
 ) -> AnswerValue
-    requires in_range { CommandInRange N.frames.frames command.now }
-    ensures answer { ServesAnswer (terms N.frames is_explained) command.now
+    requires in_range { CommandInRange N.table.frames command.now }
+    ensures answer { ServesAnswer (terms N.table is_explained) command.now
         (locked_state locked.old cpu.old) (locked_state locked.new cpu.new)
         (answer_of locked.new.machine.ledger result) }
     ensures groups { NamesItsGroups locked.new.machine.ledger result }
-    ensures last { result ≡ Settled → cpu.new.last ≡ stock_left N.frames locked.new.machine cpu.new.part.number }
+    ensures last { result ≡ Settled → cpu.new.last ≡ stock_left N.table locked.new.machine cpu.new.part.number }
 {
     match frame_path(command) {
         Some(path) => serve_frame(locked, tables, cpu, path, is_explained),
@@ -55,13 +55,13 @@ fn serve_other<N: BootName>(
     command: &Command<'_>,
     is_explained: bool,
 ) -> AnswerValue
-    requires in_range { CommandInRange N.frames.frames command.now }
+    requires in_range { CommandInRange N.table.frames command.now }
     requires other { frame_path command.now ≡ None }
-    ensures answer { ServesAnswer (terms N.frames is_explained) command.now
+    ensures answer { ServesAnswer (terms N.table is_explained) command.now
         (locked_state locked.old cpu.old) (locked_state locked.new cpu.new)
         (answer_of locked.new.machine.ledger result) }
     ensures groups { NamesItsGroups locked.new.machine.ledger result }
-    ensures last { result ≡ Settled → cpu.new.last ≡ stock_left N.frames locked.new.machine cpu.new.part.number }
+    ensures last { result ≡ Settled → cpu.new.last ≡ stock_left N.table locked.new.machine cpu.new.part.number }
 {
     let cpu_number = cpu.number();
     if let Some(said) = try_in_order(locked, tables, cpu, command) {
@@ -79,11 +79,11 @@ fn serve_frame<N: BootName>(
     path: &[u8],
     is_explained: bool,
 ) -> AnswerValue
-    ensures answer { ServesAnswer (terms N.frames is_explained) (Alloc path.entry 0)
+    ensures answer { ServesAnswer (terms N.table is_explained) (Alloc path.entry 0)
         (locked_state locked.old cpu.old) (locked_state locked.new cpu.new)
         (answer_of locked.new.machine.ledger result) }
     ensures groups { NamesItsGroups locked.new.machine.ledger result }
-    ensures last { result ≡ Settled → cpu.new.last ≡ stock_left N.frames locked.new.machine cpu.new.part.number }
+    ensures last { result ≡ Settled → cpu.new.last ≡ stock_left N.table locked.new.machine cpu.new.part.number }
 {
     let Some(group) = locked.find(path) else {
         return AnswerValue::Unlocked(UnlockedAnswer::Refused(Fault::NoGroup));
@@ -101,11 +101,11 @@ pub(crate) fn serve_frame_of<N: BootName>(
 ) -> AnswerValue
     requires there { IsTrue (has_group locked.old.machine.ledger.groups group) }
     ensures answer { (path : Bor (List ℕ)) → number_at locked.old.machine.ledger.groups path.now ≡ Some group
-        → ServesAnswer (terms N.frames is_explained) (Alloc path 0)
+        → ServesAnswer (terms N.table is_explained) (Alloc path 0)
         (locked_state locked.old cpu.old) (locked_state locked.new cpu.new)
         (answer_of locked.new.machine.ledger result) }
     ensures groups { NamesItsGroups locked.new.machine.ledger result }
-    ensures last { result ≡ Settled → cpu.new.last ≡ stock_left N.frames locked.new.machine cpu.new.part.number }
+    ensures last { result ≡ Settled → cpu.new.last ≡ stock_left N.table locked.new.machine cpu.new.part.number }
 {
     let cpu_number = cpu.number();
     match alloc_in_order(locked, tables, cpu, group) {

@@ -4,7 +4,7 @@ ghost use Rattle.std.specs.Prelude.{◌≡◌, ◌+◌, ◌++◌, ◌<◌, ◌�
 ghost use Rattle.std.specs.Thread.{IsSend, IsSync};
 ghost use Rattle.step_rules.specs.After.{Run};
 ghost use Rattle.script_replay.specs.Ranges.{LineInRange};
-ghost use Rattle.script_replay.specs.Terms.{boot_tables};
+ghost use Rattle.script_replay.specs.Terms.{known_system};
 ghost use Rattle.script_replay.specs.CpuLines.{LineCommandInRange, ServesOwn, worker};
 ghost use Rattle.script_replay.specs.Threads.{AreAllAnswers, heading, workers_from};
 ghost use Rattle.script_replay.specs.Runs.{RunsLines, lines_before_go};
@@ -32,8 +32,8 @@ pub fn run_lines<N: BootName + Send + Sync, R: Threads + Wait + Sync, G: Gate + 
     gate: &G,
 ) -> Result<Vec<u8>, AllocError>
     requires count { length cpus.old < 2 ^ 31 }
-    requires lines { All (LineInRange N.frames.frames (length cpus.old)) lines.now }
-    ensures { IfOk result (λ text. (told : List Run) × RunsLines (boot_tables N.frames system.now.sizes)
+    requires lines { All (LineInRange N.table.frames (length cpus.old)) lines.now }
+    ensures { IfOk result (λ text. (told : List Run) × RunsLines (known_system N.table system.now.sizes)
         lines.now cpus.old cpus.new told text.items) }
 {
     let (early, later) = lines.split_at(before_go(lines));
@@ -74,8 +74,8 @@ pub fn run_each<N: BootName + Send + Sync, R: Threads + Wait + Sync, G: Gate + S
     gate: &G,
 ) -> Result<Vec<u8>, AllocError>
     requires count { length cpus.old < 2 ^ 31 }
-    requires lines { All (LineInRange N.frames.frames (length cpus.old)) lines.now }
-    ensures { IfOk result (λ text. (told : List Run) × AreAllAnswers (boot_tables N.frames system.now.sizes)
+    requires lines { All (LineInRange N.table.frames (length cpus.old)) lines.now }
+    ensures { IfOk result (λ text. (told : List Run) × AreAllAnswers (known_system N.table system.now.sizes)
         (workers_from 1 cpus.old lines.now is_numbered) cpus.new told text.items) }
 {
     let job = Job {
@@ -96,9 +96,9 @@ fn run_from<N: BootName + Send + Sync, R: Threads + Wait + Sync, G: Gate + Sync>
     cpus: &mut [Cpu<N>],
 ) -> Result<Vec<u8>, AllocError>
     requires count { first + length cpus.old ≤ 2 ^ 31 }
-    requires lines { All (LineCommandInRange N.frames.frames) job.now.lines.now }
+    requires lines { All (LineCommandInRange N.table.frames) job.now.lines.now }
     ensures { IfOk result (λ text. (told : List Run)
-        × AreAllAnswers (boot_tables N.frames job.now.visitor.system.now.sizes)
+        × AreAllAnswers (known_system N.table job.now.visitor.system.now.sizes)
         (workers_from first cpus.old job.now.lines.now job.now.is_numbered) cpus.new told text.items) }
 {
     if cpus.len() < 2 {
@@ -122,26 +122,26 @@ fn run_both<N: BootName + Send + Sync, R: Threads + Wait + Sync, G: Gate + Sync>
     requires some_back { 1 ≤ length back.old }
     requires front { first + length front.old ≤ 2 ^ 31 }
     requires back { second + length back.old ≤ 2 ^ 31 }
-    requires lines { All (LineCommandInRange N.frames.frames) job.now.lines.now }
+    requires lines { All (LineCommandInRange N.table.frames) job.now.lines.now }
     ensures { IfOk result (λ text. (told : List Run)
-        × AreAllAnswers (boot_tables N.frames job.now.visitor.system.now.sizes)
+        × AreAllAnswers (known_system N.table job.now.visitor.system.now.sizes)
         (workers_from first front.old job.now.lines.now job.now.is_numbered
         ++ workers_from second back.old job.now.lines.now job.now.is_numbered)
         (front.new ++ back.new) told text.items) }
 {
     let mut run_front = || -> Result<Vec<u8>, AllocError>
         requires { IsSync R.row × IsSync G.row × IsSync N.row × IsSend N.row × (first + length front.now ≤ 2 ^ 31)
-            × All (LineCommandInRange N.frames.frames) job.now.lines.now }
+            × All (LineCommandInRange N.table.frames) job.now.lines.now }
         ensures { IfOk result (λ text. (told : List Run)
-            × AreAllAnswers (boot_tables N.frames job.entry.now.visitor.system.now.sizes)
+            × AreAllAnswers (known_system N.table job.entry.now.visitor.system.now.sizes)
             (workers_from first front.entry.now job.entry.now.lines.now job.entry.now.is_numbered) front.exit.now told
             text.items) }
     { run_from(job, first, front) };
     let mut run_back = || -> Result<Vec<u8>, AllocError>
         requires { IsSync R.row × IsSync G.row × IsSync N.row × IsSend N.row × (second + length back.now ≤ 2 ^ 31)
-            × All (LineCommandInRange N.frames.frames) job.now.lines.now }
+            × All (LineCommandInRange N.table.frames) job.now.lines.now }
         ensures { IfOk result (λ text. (told : List Run)
-            × AreAllAnswers (boot_tables N.frames job.entry.now.visitor.system.now.sizes)
+            × AreAllAnswers (known_system N.table job.entry.now.visitor.system.now.sizes)
             (workers_from second back.entry.now job.entry.now.lines.now job.entry.now.is_numbered) back.exit.now told
             text.items) }
     { run_from(job, second, back) };
@@ -159,9 +159,9 @@ fn run_at_most_one<N: BootName, R: Wait, G: Gate>(
     cpus: &mut [Cpu<N>],
 ) -> Result<Vec<u8>, AllocError>
     requires short { length cpus.old < 2 }
-    requires lines { All (LineCommandInRange N.frames.frames) job.now.lines.now }
+    requires lines { All (LineCommandInRange N.table.frames) job.now.lines.now }
     ensures { IfOk result (λ text. (told : List Run)
-        × AreAllAnswers (boot_tables N.frames job.now.visitor.system.now.sizes)
+        × AreAllAnswers (known_system N.table job.now.visitor.system.now.sizes)
         (workers_from cpu_number cpus.old job.now.lines.now job.now.is_numbered) cpus.new told text.items) }
 {
     if cpus.is_empty() {
@@ -176,9 +176,9 @@ fn run_one<N: BootName, R: Wait, G: Gate>(
     cpu_number: u32,
     cpu: &mut Cpu<N>,
 ) -> Result<Vec<u8>, AllocError>
-    requires { All (LineCommandInRange N.frames.frames) job.now.lines.now }
+    requires { All (LineCommandInRange N.table.frames) job.now.lines.now }
     ensures { IfOk result (λ text. (told : Run) × (own : List ℕ)
-        × ServesOwn (boot_tables N.frames job.now.visitor.system.now.sizes)
+        × ServesOwn (known_system N.table job.now.visitor.system.now.sizes)
         (worker cpu_number cpu.old job.now.lines.now job.now.is_numbered) cpu.new told own
         × (text.items ≡ heading cpu_number ++ own)) }
 {

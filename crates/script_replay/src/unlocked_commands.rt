@@ -1,6 +1,7 @@
 //! The commands that the CPU carries out without the lock, and their steps, which the machine's watch takes by value.
 
 ghost use Rattle.std.specs.Prelude.{◌≡◌, ◌<◌, ◌^◌, ◌∷◌, [], IfNone, IfSome, MatchBool, false, if◌then◌else◌, ℕ};
+ghost use Rattle.step_rules.specs.After.{cpu_makes};
 ghost use Rattle.cpu_part.specs.Calls.{FastAnswers};
 ghost use Rattle.frame_word.specs.declared.answers.Put.TheVariants.{Left};
 ghost use Rattle.reply_texts.specs.declared.steps.UnlockedAnswer.TheVariants as unlocked;
@@ -8,9 +9,8 @@ ghost use Rattle.script_lines.specs.declared.line.Command.TheVariants as command
 ghost use Rattle.step_rules.specs.declared.step.Action.TheVariants as step;
 ghost use Rattle.step_rules.specs.declared.step.Answer.TheVariants as step_answer;
 ghost use Rattle.mem_system.specs.Visits.{locked_state};
-ghost use Rattle.mem_machine.specs.Steps.{cpu_makes};
-ghost use Rattle.script_replay.specs.Answers.{AnswersAlone, CanNotList, Gains, ListsAgain, MakesAlone, NeedsLock};
-ghost use Rattle.script_replay.specs.Answers.{OnlySaw, OnlyWatched, steps_alone, steps_tried};
+ghost use Rattle.script_replay.specs.Answers.{AnswersUnlocked, CanNotList, Gains, ListsAgain, MakesUnlocked, NeedsLock};
+ghost use Rattle.script_replay.specs.Answers.{OnlySaw, OnlyWatched, steps_unlocked, steps_tried};
 ghost use Rattle.script_replay.specs.Commands.{is_tried};
 ghost use Rattle.script_replay.specs.Ranges.{CommandInRange};
 
@@ -33,10 +33,10 @@ pub(crate) fn try_in_order<N: BootName>(
     cpu: &mut Cpu<N>,
     command: &Command<'_>,
 ) -> Option<UnlockedAnswer>
-    requires in_range { CommandInRange N.frames.frames command.now }
-    ensures answered { IfSome result (AnswersAlone command.now cpu.old cpu.new) }
+    requires in_range { CommandInRange N.table.frames command.now }
+    ensures answered { IfSome result (AnswersUnlocked command.now cpu.old cpu.new) }
     ensures needs_lock { IfNone result (NeedsLock command.now cpu.old cpu.new) }
-    ensures only_saw { OnlySaw N.frames [] locked.old locked.new }
+    ensures only_saw { OnlySaw N.table [] locked.old locked.new }
     ensures gains { Gains (steps_tried cpu.old.part.number command.now result)
         (locked_state locked.old cpu.old) (locked_state locked.new cpu.new) }
     ensures stays { is_tried command.now ≡ false → locked_state locked.new cpu.new ≡ locked_state locked.old cpu.old }
@@ -60,8 +60,8 @@ pub(crate) fn alloc_in_order<N: BootName>(
     group: GroupId,
 ) -> Fast
     ensures answer { FastAnswers group result cpu.old.last cpu.old.part cpu.new.last cpu.new.part }
-    ensures only_saw { OnlySaw N.frames [] locked.old locked.new }
-    ensures gains { Gains (steps_alone cpu.old.part.number (command.Fast group) (unlocked.Fast result))
+    ensures only_saw { OnlySaw N.table [] locked.old locked.new }
+    ensures gains { Gains (steps_unlocked cpu.old.part.number (command.Fast group) (unlocked.Fast result))
         (locked_state locked.old cpu.old) (locked_state locked.new cpu.new) }
 {
     let _number = cpu.number();
@@ -79,10 +79,10 @@ pub(crate) fn try_unlocked<N: BootName>(
     cpu: &mut Cpu<N>,
     command: &Command<'_>,
 ) -> Option<UnlockedAnswer>
-    requires in_range { CommandInRange N.frames.frames command.now }
-    ensures answered { IfSome result (AnswersAlone command.now cpu.old cpu.new) }
+    requires in_range { CommandInRange N.table.frames command.now }
+    ensures answered { IfSome result (AnswersUnlocked command.now cpu.old cpu.new) }
     ensures needs_lock { IfNone result (NeedsLock command.now cpu.old cpu.new) }
-    ensures run { MakesAlone cpu.old.part.number (steps_tried cpu.old.part.number command.now result)
+    ensures run { MakesUnlocked cpu.old.part.number (steps_tried cpu.old.part.number command.now result)
         cpu.old.past cpu.new.past }
     ensures stays { is_tried command.now ≡ false → cpu.new ≡ cpu.old }
 {
@@ -104,9 +104,9 @@ pub(crate) fn try_unlocked<N: BootName>(
 // Pins the frame.
 #[inline(always)]
 fn pin<N: BootName>(tables: &Tables<N>, cpu: &mut Cpu<N>, frame_number: u32) -> UnlockedAnswer
-    requires in_zone { frame_number < N.frames.frames }
-    ensures answer { AnswersAlone (command.Get frame_number) cpu.old cpu.new result }
-    ensures run { MakesAlone cpu.old.part.number (steps_alone cpu.old.part.number (command.Get frame_number) result)
+    requires in_zone { frame_number < N.table.frames }
+    ensures answer { AnswersUnlocked (command.Get frame_number) cpu.old cpu.new result }
+    ensures run { MakesUnlocked cpu.old.part.number (steps_unlocked cpu.old.part.number (command.Get frame_number) result)
         cpu.old.past cpu.new.past }
 {
     let frame = tables.words.frame(frame_number).unwrap();
@@ -119,9 +119,9 @@ fn pin<N: BootName>(tables: &Tables<N>, cpu: &mut Cpu<N>, frame_number: u32) -> 
 // Puts a pin of the frame. The CPU may have none on it.
 #[inline(always)]
 fn unpin<N: BootName>(tables: &Tables<N>, cpu: &mut Cpu<N>, frame_number: u32) -> UnlockedAnswer
-    requires in_zone { frame_number < N.frames.frames }
-    ensures answer { AnswersAlone (command.Put frame_number) cpu.old cpu.new result }
-    ensures run { MakesAlone cpu.old.part.number (steps_alone cpu.old.part.number (command.Put frame_number) result)
+    requires in_zone { frame_number < N.table.frames }
+    ensures answer { AnswersUnlocked (command.Put frame_number) cpu.old cpu.new result }
+    ensures run { MakesUnlocked cpu.old.part.number (steps_unlocked cpu.old.part.number (command.Put frame_number) result)
         cpu.old.past cpu.new.past }
 {
     let frame = tables.words.frame(frame_number).unwrap();
@@ -133,11 +133,11 @@ fn unpin<N: BootName>(tables: &Tables<N>, cpu: &mut Cpu<N>, frame_number: u32) -
 
 // Lists the frame again, if it is fresh at the CPU and its page can be credited. Returns whether it did.
 fn try_relist<N: BootName>(tables: &Tables<N>, cpu: &mut Cpu<N>, frame_number: u32) -> bool
-    requires in_zone { frame_number < N.frames.frames }
+    requires in_zone { frame_number < N.table.frames }
     ensures listed { MatchBool result (ListsAgain frame_number cpu.old cpu.new)
         (CanNotList frame_number cpu.old cpu.new) }
-    ensures run { MakesAlone cpu.old.part.number
-        (if result then steps_alone cpu.old.part.number (command.Release frame_number) unlocked.Listed else [])
+    ensures run { MakesUnlocked cpu.old.part.number
+        (if result then steps_unlocked cpu.old.part.number (command.Release frame_number) unlocked.Listed else [])
         cpu.old.past cpu.new.past }
 {
     let frame = tables.words.frame(frame_number).unwrap();
@@ -171,9 +171,9 @@ pub(crate) fn watch_unlocked<N: BootName>(
     command: &Command<'_>,
     said: &UnlockedAnswer,
 )
-    requires in_range { CommandInRange N.frames.frames command.now }
+    requires in_range { CommandInRange N.table.frames command.now }
     requires few { (left : ℕ) → said.now ≡ unlocked.Put (Left left) → left < 2 ^ 32 }
-    ensures { OnlyWatched (steps_alone cpu command.now said.now) locked.old locked.new }
+    ensures { OnlyWatched (steps_unlocked cpu command.now said.now) locked.old locked.new }
 {
     if !locked.watch().is_on() {
         return;

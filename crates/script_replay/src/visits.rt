@@ -8,8 +8,8 @@ ghost use Rattle.script_replay.specs.Commands.{OnlySettles, locked_command_of};
 ghost use Rattle.script_replay.specs.Lines.{StopsAt};
 ghost use Rattle.script_replay.specs.Numbers.{SaysNumbered};
 ghost use Rattle.script_replay.specs.Ranges.{CommandInRange, LineInRange};
-ghost use Rattle.script_replay.specs.Terms.{boot_tables};
-ghost use Rattle.script_replay.specs.Visits.{AnswersAloneBySteps, NeedsVisit, ServesByVisits, VisitsAll};
+ghost use Rattle.script_replay.specs.Terms.{known_system};
+ghost use Rattle.script_replay.specs.Visits.{AnswersWithoutVisitBySteps, NeedsVisit, ServesByVisits, VisitsAll};
 ghost use Rattle.script_replay.specs.Visits.{VisitsLine, WritesByVisit};
 
 use crate::commands::frame_path;
@@ -47,9 +47,9 @@ pub fn visit_line<N: BootName, R: Wait, G: Gate>(
     command: &Command<'_>,
     text: &mut String,
 ) -> Result<(), AllocError>
-    requires in_range { CommandInRange N.frames.frames command.now }
+    requires in_range { CommandInRange N.table.frames command.now }
     ensures answered { AddsText result text.old text.new
-        (ServesByVisits (boot_tables N.frames visitor.now.system.now.sizes) command.now cpu.old cpu.new) }
+        (ServesByVisits (known_system N.table visitor.now.system.now.sizes) command.now cpu.old cpu.new) }
 {
     let cpu_number = cpu.number();
     visitor.gate.before(cpu_number, line);
@@ -68,9 +68,9 @@ pub fn visit_numbered_line<N: BootName, R: Wait, G: Gate>(
     command: &Command<'_>,
     text: &mut String,
 ) -> Result<(), AllocError>
-    requires in_range { CommandInRange N.frames.frames command.now }
+    requires in_range { CommandInRange N.table.frames command.now }
     ensures answered { AddsText result text.old text.new (SaysNumbered true line
-        (ServesByVisits (boot_tables N.frames visitor.now.system.now.sizes) command.now cpu.old cpu.new)) }
+        (ServesByVisits (known_system N.table visitor.now.system.now.sizes) command.now cpu.old cpu.new)) }
 {
     let mut plain = String::new(alloc);
     visit_line(visitor, cpu, line, command, &mut plain)?;
@@ -84,11 +84,11 @@ pub(crate) fn visit_text<N: BootName, R: Wait, G: Gate>(
     command: &Command<'_>,
     text: &mut String,
 ) -> Result<(), AllocError>
-    requires in_range { CommandInRange N.frames.frames command.now }
+    requires in_range { CommandInRange N.table.frames command.now }
     ensures answered { AddsText result text.old text.new
-        (ServesByVisits (boot_tables N.frames visitor.now.system.now.sizes) command.now cpu.old cpu.new) }
+        (ServesByVisits (known_system N.table visitor.now.system.now.sizes) command.now cpu.old cpu.new) }
 {
-    match answer_alone(visitor, cpu, command) {
+    match answer_without_visit(visitor, cpu, command) {
         Some(said) => write_unlocked(&said, text),
         None => write_by_visit(visitor, cpu, command, text),
     }
@@ -96,14 +96,16 @@ pub(crate) fn visit_text<N: BootName, R: Wait, G: Gate>(
 
 // Answers a command without a visit, if that is possible.
 #[inline(always)]
-fn answer_alone<N: BootName, R: Wait, G: Gate>(
+fn answer_without_visit<N: BootName, R: Wait, G: Gate>(
     visitor: &Visitor<'_, N, R, G>,
     cpu: &mut Cpu<N>,
     command: &Command<'_>,
 ) -> Option<UnlockedAnswer>
-    requires in_range { CommandInRange N.frames.frames command.now }
-    ensures answers { IfSome result (AnswersAloneBySteps (boot_tables N.frames visitor.now.system.now.sizes) command.now cpu.old cpu.new) }
-    ensures needs_visit { IfNone result (NeedsVisit (boot_tables N.frames visitor.now.system.now.sizes) command.now cpu.old cpu.new) }
+    requires in_range { CommandInRange N.table.frames command.now }
+    ensures answers { IfSome result
+        (AnswersWithoutVisitBySteps (known_system N.table visitor.now.system.now.sizes) command.now cpu.old cpu.new) }
+    ensures needs_visit { IfNone result
+        (NeedsVisit (known_system N.table visitor.now.system.now.sizes) command.now cpu.old cpu.new) }
 {
     match frame_path(command) {
         Some(path) => take_listed(visitor, cpu, path),
@@ -118,9 +120,10 @@ fn take_listed<N: BootName, R: Wait, G: Gate>(
     path: &[u8],
 ) -> Option<UnlockedAnswer>
     ensures answers { IfSome result
-        (AnswersAloneBySteps (boot_tables N.frames visitor.now.system.now.sizes) (Alloc path.entry 0) cpu.old cpu.new) }
+        (AnswersWithoutVisitBySteps (known_system N.table visitor.now.system.now.sizes) (Alloc path.entry 0)
+        cpu.old cpu.new) }
     ensures needs_visit { IfNone result
-        (NeedsVisit (boot_tables N.frames visitor.now.system.now.sizes) (Alloc path.entry 0) cpu.old cpu.new) }
+        (NeedsVisit (known_system N.table visitor.now.system.now.sizes) (Alloc path.entry 0) cpu.old cpu.new) }
 {
     let Some(group) = visitor.system.find(visitor.rt, cpu, path) else {
         return Some(UnlockedAnswer::Refused(Fault::NoGroup));
@@ -138,10 +141,10 @@ fn write_by_visit<N: BootName, R: Wait, G: Gate>(
     command: &Command<'_>,
     text: &mut String,
 ) -> Result<(), AllocError>
-    requires in_range { CommandInRange N.frames.frames command.now }
+    requires in_range { CommandInRange N.table.frames command.now }
     requires settles { locked_command_of command.now ≡ None → OnlySettles command.now }
     ensures answered { AddsText result text.old text.new (λ told. (steps : Run)
-        × WritesByVisit (boot_tables N.frames visitor.now.system.now.sizes) command.now steps cpu.old cpu.new told) }
+        × WritesByVisit (known_system N.table visitor.now.system.now.sizes) command.now steps cpu.old cpu.new told) }
 {
     let mut guard = visitor.system.lock(visitor.rt);
     visitor.gate.inside(cpu.number());
@@ -163,11 +166,11 @@ pub fn replay_by_visits<N: BootName, R: Wait>(
     cpus: &mut [Cpu<N>],
     lines: &[Line<'_>],
 ) -> Result<Vec<u8>, AllocError>
-    requires there { All (LineInRange N.frames.frames (length cpus.old)) lines.now }
+    requires there { All (LineInRange N.table.frames (length cpus.old)) lines.now }
     ensures answers { IfOk result (λ answers.
-        VisitsAll (boot_tables N.frames system.now.sizes) lines.now cpus.old cpus.new answers.items) }
+        VisitsAll (known_system N.table system.now.sizes) lines.now cpus.old cpus.new answers.items) }
     ensures stopped { OnErr result
-        (StopsAt (VisitsAll (boot_tables N.frames system.now.sizes)) lines.now cpus.old cpus.new) }
+        (StopsAt (VisitsAll (known_system N.table system.now.sizes)) lines.now cpus.old cpus.new) }
 {
     let mut answers = String::new(alloc);
     for line in lines {
@@ -184,9 +187,9 @@ fn serve_by_visit<N: BootName, R: Wait>(
     line: &Line<'_>,
     answers: &mut String,
 ) -> Result<(), AllocError>
-    requires there { LineInRange N.frames.frames (length cpus.old) line.now }
+    requires there { LineInRange N.table.frames (length cpus.old) line.now }
     ensures served { AddsText result answers.old answers.new
-        (VisitsLine (boot_tables N.frames system.now.sizes) line.now cpus.old cpus.new) }
+        (VisitsLine (known_system N.table system.now.sizes) line.now cpus.old cpus.new) }
 {
     match line {
         Line::Go => Ok(()),

@@ -35,11 +35,11 @@ pub(crate) fn write_answer<N: BootName>(
     is_explained: bool,
     text: &mut String,
 ) -> Result<(), AllocError>
-    requires in_range { CommandInRange N.frames.frames command.now }
+    requires in_range { CommandInRange N.table.frames command.now }
     requires groups { NamesItsGroups locked.old.machine.ledger value.now }
     requires settles { value.now ≡ Settled → OnlySettles command.now }
-    requires last { value.now ≡ Settled → cpu.now.last ≡ stock_left N.frames locked.old.machine cpu.now.part.number }
-    ensures told { AddsText result text.old text.new (λ told. IsAnswerText N.frames is_explained command.now
+    requires last { value.now ≡ Settled → cpu.now.last ≡ stock_left N.table locked.old.machine cpu.now.part.number }
+    ensures told { AddsText result text.old text.new (λ told. IsAnswerText N.table is_explained command.now
         (answer_of locked.old.machine.ledger value.now) told (locked_state locked.old cpu.now)) }
     ensures stays { locked.new ≡ locked.old }
 {
@@ -59,9 +59,9 @@ fn write_settled_cpu<N: BootName>(
     text: &mut String,
 ) -> Result<(), AllocError>
     requires settles { OnlySettles command.now }
-    requires last { cpu.now.last ≡ stock_left N.frames locked.old.machine cpu.now.part.number }
+    requires last { cpu.now.last ≡ stock_left N.table locked.old.machine cpu.now.part.number }
     ensures told { AddsText result text.old text.new (λ told.
-        IsSettledText N.frames is_explained command.now told (locked_state locked.old cpu.now)) }
+        IsSettledText N.table is_explained command.now told (locked_state locked.old cpu.now)) }
     ensures stays { locked.new ≡ locked.old }
 {
     match *command {
@@ -82,7 +82,7 @@ fn write_units_or_refusal<N: BootName>(
     text: &mut String,
 ) -> Result<(), AllocError>
     ensures told { AddsText result text.old text.new (λ told.
-        IsUnitsText N.frames is_explained path.now told locked.old.machine) }
+        IsUnitsText N.table is_explained path.now told locked.old.machine) }
     ensures stays { locked.new ≡ locked.old }
 {
     let is_there = write_units_at(locked, tables, path, text)?;
@@ -109,7 +109,7 @@ fn write_value<N: BootName>(
     is_explained: bool,
     text: &mut String,
 ) -> Result<(), AllocError>
-    requires in_range { CommandInRange N.frames.frames command.now }
+    requires in_range { CommandInRange N.table.frames command.now }
     requires groups { NamesItsGroups locked.now.machine.ledger value.now }
     ensures { IfOk result (λ _. string_bytes text.new ≡ string_bytes text.old
         ++ (reasoned_text is_explained (answer_of locked.now.machine.ledger value.now)

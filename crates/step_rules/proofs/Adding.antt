@@ -2,12 +2,13 @@
 use Rattle.std.proofs.Common.{◌≡◌, ℕ, ◌+◌, ◌<◌, ◌&&◌, ◌==◌, Bool, true, false, Option, Some, None, refl, sym, ◌∙◌, ap, cond, if◌then◌else◌, eq-eqb}
 use Rattle.std.proofs.lemmas.Bool.{ne_eqb, lt-ltb}
 use Rattle.group_tree.specs.Groups.{in_subtree}
+use Rattle.group_tree.specs.{is_there, is_in_subtree}
 use Rattle.step_rules.specs.declared.phase.Phase.{Phase}
 use Rattle.step_rules.specs.declared.phase.Phase.TheVariants.{InZone, Lent, Head, Tail}
 use Rattle.step_rules.specs.declared.step.FramePlace.TheVariants.{Charged}
-use Rattle.step_rules.specs.{keeper_of, Zone, one_if, sum_to, is_in_subtree, frames_kept, stock_in_subtree, pages_prepaid, pages_pending, state_of}
+use Rattle.step_rules.specs.{keeper_of, Zone, one_if, sum_to, frames_kept, stock_in_subtree, pages_prepaid, pages_pending, state_of}
 use Rattle.step_rules.specs.{places_of, is_same_frame_place, place_in, counted_with_state, stock_gained, stock_lost, counted, pending_in, pending_out}
-use Rattle.step_rules.specs.{last_fill, AllCurrentFollowsRun, there_or_none, IsHomed}
+use Rattle.step_rules.specs.{last_fill, AllCurrentFollowsRun, IsHomed}
 use Rattle.step_rules.specs.State.{State}
 use Rattle.step_rules.proofs.Sums.{sum_same, sum_none, sum_both, sum_only}
 use Rattle.step_rules.proofs.Counting.{stocks_are_counted}
@@ -42,7 +43,7 @@ charged_is (Head u stage) h = refl
 charged_is (Tail g) h = refl
 
 -- of all groups one at most has the frame
-one_pair : (zone : Zone) (s : State) (g : ℕ) (o : Option ℕ) → IsHomed s → there_or_none s.groups o ≡ true →
+one_pair : (zone : Zone) (s : State) (g : ℕ) (o : Option ℕ) → IsHomed s → is_there s.groups o ≡ true →
     one_if (is_in_subtree s.groups g o) ≡ sum_to 64 (λ h. one_if (in_subtree s.groups g h && is_of o h))
 one_pair zone s g None homed there = sym (sum_none 64 (λ h. one_if (in_subtree s.groups g h && false)) (λ h below. no_pair (in_subtree s.groups g h)))
   where

@@ -2,10 +2,10 @@
 use Rattle.std.proofs.Common.{◌≡◌, ℕ, Bool, true, false, ◌==◌, ◌&&◌, Option, Some, None, List, refl, ◌∙◌, ap, if◌then◌else◌, cond}
 use Rattle.group_tree.specs.declared.event.EventKey.{EventKey}
 use Rattle.group_tree.specs.declared.group.Group.{Group}
-use Rattle.group_tree.specs.{is_same_key, in_subtree}
+use Rattle.group_tree.specs.{is_same_key, in_subtree, is_in_subtree}
 use Rattle.step_rules.specs.declared.step.Action.{Action}
 use Rattle.step_rules.specs.declared.step.Answer.{Answer}
-use Rattle.step_rules.specs.{is_in_subtree, is_of_group, event_of, group_noted, noted_at, is_noted_in_subtree, is_noted_at}
+use Rattle.step_rules.specs.{is_of_group, event_of, group_noted, noted_at, is_noted_in_subtree, is_noted_at}
 
 -- ---- what a step notes, by any key, from the one note that it makes or doesn't make
 pub noted_so : (kind key : EventKey) (g : ℕ) (action : Action) (answer : Answer) → event_of action answer ≡ Some (kind, g) →

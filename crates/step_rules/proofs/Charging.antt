@@ -7,6 +7,7 @@ use Rattle.std.proofs.lemmas.Nat.{pow_pos}
 use Rattle.zone_blocks.specs.declared.block.Block.{Block}
 use Rattle.group_tree.specs.declared.group.Group.{Group}
 use Rattle.group_tree.specs.Groups.{has_group, in_subtree, initial_groups}
+use Rattle.group_tree.specs.{is_in_subtree}
 use Rattle.step_rules.specs.declared.phase.ChargedUnit.{ChargedUnit}
 use Rattle.step_rules.specs.declared.phase.Way.TheVariants.{PassingOut, OnList}
 use Rattle.step_rules.specs.declared.phase.Stage.TheVariants.{FreshAt, Bare, Live, AwaitsReturn}
@@ -20,7 +21,7 @@ use Rattle.step_rules.specs.declared.step.Answer.{Answer}
 use Rattle.step_rules.specs.declared.step.Answer.TheVariants.{Illegal, Done, Last, Took, Stocked, Pages, Granted, Placed, Number}
 use Rattle.step_rules.specs.Phases.{FreshFrame}
 use Rattle.step_rules.specs.{keeper_of, unit_of, has_as, is_free, passes_out, at_stage, passed_back, collected, stage_after_last, is_returnable, Zone}
-use Rattle.step_rules.specs.{Part, at_boot, with_at, one_if, is_cpu, is_frame, visits, front_of, with_last, is_in_subtree, frames_kept}
+use Rattle.step_rules.specs.{Part, at_boot, with_at, one_if, is_cpu, is_frame, visits, front_of, with_last, frames_kept}
 use Rattle.step_rules.specs.{stock_in_subtree, pages_prepaid, pages_pending, usage_of, is_legal, IsAnswer, IsCounted, IsMade, Allows, takes_fill, Run}
 use Rattle.step_rules.specs.{IsLegalRun, after, state_of, is_within, unit_size, placed_phase, with_block, without_unit, with_more, with_back}
 use Rattle.step_rules.specs.{without_frame, with_report, absorbed, paid, credited, consumed, filled, drained, units_after_run, groups_after}

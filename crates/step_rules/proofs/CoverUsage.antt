@@ -2,13 +2,14 @@
 use Rattle.std.proofs.Common.{◌≡◌, ℕ, ◌+◌, ◌<◌, ◌==◌, Bool, true, false, Option, Some, List, length, refl, sym, ◌∙◌, ap, arith, cond, if◌then◌else◌, eq-eqb}
 use Rattle.std.proofs.lemmas.Bool.{ne_eqb}
 use Rattle.group_tree.specs.declared.group.Group.{Group}
+use Rattle.group_tree.specs.{is_in_subtree}
 use Rattle.step_rules.specs.declared.phase.ChargedUnit.{ChargedUnit}
 use Rattle.step_rules.specs.declared.phase.Stage.TheVariants.{FreshAt, BackAt, Live}
 use Rattle.step_rules.specs.declared.phase.Phase.{Phase}
 use Rattle.step_rules.specs.declared.phase.Phase.TheVariants.{Lent, Head}
 use Rattle.step_rules.specs.declared.phase.Way.TheVariants.{OnList}
 use Rattle.step_rules.specs.Phases.{FreshFrame}
-use Rattle.step_rules.specs.{has_as, keeper_of, Part, one_if, sum_to, times, is_in_subtree, frames_kept, stock_in_subtree, pages_prepaid, usage_of}
+use Rattle.step_rules.specs.{has_as, keeper_of, Part, one_if, sum_to, times, frames_kept, stock_in_subtree, pages_prepaid, usage_of}
 use Rattle.step_rules.specs.{phase_seen_by, other_part_seen, parts_seen_by, seen_by, IsPaid, PhasePaid, groups_in, KeepsInvariant}
 use Rattle.step_rules.specs.State.{State}
 use Rattle.step_rules.proofs.Sums.{sum_same, sum_none, sum_both, sum_swap, sum_only}

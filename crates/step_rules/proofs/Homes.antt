@@ -9,6 +9,7 @@ use Rattle.group_tree.specs.declared.fault.Fault.{Fault}
 use Rattle.group_tree.specs.Groups.{has_group, has_child, in_subtree, make_fault, with_group, with_limit, with_oom_group, without_group, IsLeastFreeNumber, AreGroups}
 use Rattle.group_tree.proofs.GroupLemmas.{AreGroups-with, AreGroups-limited, AreGroups-flagged, AreGroups-without, CanMake, can_make, length-full, has_group-is, group_at-contains}
 use Rattle.group_tree.proofs.CallerLemmas.{has_group-with_kept, has_group-limited, has_group-flagged, has_group-without, in_subtree-refl}
+use Rattle.group_tree.specs.{is_there, is_in_subtree}
 use Rattle.step_rules.specs.declared.phase.Hold.{Hold}
 use Rattle.step_rules.specs.declared.phase.Hold.TheVariants.{Unheld, HeldBy, Visiting}
 use Rattle.step_rules.specs.declared.phase.Stage.{Stage}
@@ -23,9 +24,9 @@ use Rattle.step_rules.specs.declared.step.Answer.{Answer}
 use Rattle.step_rules.specs.declared.step.Answer.TheVariants.{Illegal, Done, Last, Took, Stocked, Pages, Granted, Placed, Number}
 use Rattle.step_rules.specs.Phases.{FreshFrame}
 use Rattle.step_rules.specs.{keeper_of, has_as, at_stage, passed_back, collected, stage_after_last, unit_of, Zone, Part, with_at, one_if, is_cpu}
-use Rattle.step_rules.specs.{is_unheld, is_held_by, visits, front_of, is_in_subtree, frames_kept, stock_in_subtree, pages_prepaid, pages_pending}
+use Rattle.step_rules.specs.{is_unheld, is_held_by, visits, front_of, frames_kept, stock_in_subtree, pages_prepaid, pages_pending}
 use Rattle.step_rules.specs.{usage_of, is_legal, IsAnswer, IsCounted, is_removable, after, is_within, unit_size, with_more, with_back, holds_lock}
-use Rattle.step_rules.specs.{PhasePaid, groups_in, KeepsInvariant, there_or_none, some_there, told_pages, Homes, IsHomed}
+use Rattle.step_rules.specs.{PhasePaid, groups_in, KeepsInvariant, some_there, told_pages, Homes, IsHomed}
 use Rattle.step_rules.specs.State.{State}
 use Rattle.step_rules.proofs.LegalTests.{absorb_tests, credit_tests, fill_tests, grant_tests, lock_tests, make_tests}
 use Rattle.step_rules.proofs.LegalTests.{open_visit_tests, pass_back_tests, place_block_tests, removable_tests, remove_tests, report_tests}
@@ -43,10 +44,10 @@ module _ {zone : Zone} {hold : Hold} {groups : List Group} {phases : ℕ → Pha
   homes_hold later holder quiet =
       record { tree = h.tree; frames = h.frames; stocks = h.stocks; beyond = h.beyond; pages = h.pages; holder = holder; quiet = quiet }
 
-  homes_phase : (f : ℕ) (y : Phase) → there_or_none groups (keeper_of y) ≡ true → Homes zone hold groups (with_at phases f y) parts pending
+  homes_phase : (f : ℕ) (y : Phase) → is_there groups (keeper_of y) ≡ true → Homes zone hold groups (with_at phases f y) parts pending
   homes_phase f y there = record {
     tree = h.tree;
-    frames = at_each phases f y (λ n x. there_or_none groups (keeper_of x) ≡ true) there (λ n ne. h.frames n);
+    frames = at_each phases f y (λ n x. is_there groups (keeper_of x) ≡ true) there (λ n ne. h.frames n);
     stocks = h.stocks;
     beyond = h.beyond;
     pages = h.pages;
@@ -54,7 +55,7 @@ module _ {zone : Zone} {hold : Hold} {groups : List Group} {phases : ℕ → Pha
     quiet = h.quiet;
   }
 
-  homes_phases : (later : ℕ → Phase) → ((f : ℕ) → there_or_none groups (keeper_of (later f)) ≡ true) → Homes zone hold groups later parts pending
+  homes_phases : (later : ℕ → Phase) → ((f : ℕ) → is_there groups (keeper_of (later f)) ≡ true) → Homes zone hold groups later parts pending
   homes_phases later there = record { tree = h.tree; frames = there; stocks = h.stocks; beyond = h.beyond; pages = h.pages; holder = h.holder; quiet = h.quiet }
 
   homes_part : (p : ℕ) (part : Part) → (1 ≤ part.stock.pages → some_there groups part.stock.group ≡ true) → (is_cpu zone p ≡ false → part.stock.pages ≡ 0) →
@@ -140,7 +141,7 @@ got_keeper (Tail g) = refl
 homes_same : {zone : Zone} {hold : Hold} {groups : List Group} {phases : ℕ → Phase} {parts : ℕ → Part} {pending : ℕ → ℕ}
     (h : Homes zone hold groups phases parts pending) →
     (f : ℕ) (y : Phase) → keeper_of y ≡ keeper_of (phases f) → Homes zone hold groups (with_at phases f y) parts pending
-homes_same {groups = groups} h f y e = homes_phase h f y (ap (there_or_none groups) e ∙ h.frames f)
+homes_same {groups = groups} h f y e = homes_phase h f y (ap (is_there groups) e ∙ h.frames f)
 
 -- the numbers of groups that are there are low
 pub number_low : (groups : List Group) (g : ℕ) → AreGroups groups → has_group groups g ≡ true → g < 64
@@ -174,14 +175,14 @@ gone_keeps {zone} {hold} {phases} {parts} {pending} groups g h there none leaf b
     low : g < 64
     low = number_low groups g h.tree there
 
-    frame : (f : ℕ) (o : Option ℕ) → keeper_of (phases f) ≡ o → there_or_none (without_group groups g) (keeper_of (phases f)) ≡ true
-    frame f None e = ap (there_or_none (without_group groups g)) e
+    frame : (f : ℕ) (o : Option ℕ) → keeper_of (phases f) ≡ o → is_there (without_group groups g) (keeper_of (phases f)) ≡ true
+    frame f None e = ap (is_there (without_group groups g)) e
     frame f (Some k) e = elim (cases_eq k g) [
       | inl same ↦ elim (cases_lt f zone.frames) [
         | inl inside ↦ absurd (let a = kept_frame h f g inside (e ∙ ap (λ (n : ℕ). Some n) same) there in omega arith)
         | inr past ↦ absurd (none_some k (sym (ap keeper_of (outside f past)) ∙ e))
       ]
-      | inr ne ↦ ap (there_or_none (without_group groups g)) e ∙ has_group-without groups g k ne ∙ sym (ap (there_or_none groups) e) ∙ h.frames f
+      | inr ne ↦ ap (is_there (without_group groups g)) e ∙ has_group-without groups g k ne ∙ sym (ap (is_there groups) e) ∙ h.frames f
     ]
 
     stock : (q : ℕ) → 1 ≤ (parts q).stock.pages → (o : Option ℕ) → (parts q).stock.group ≡ o → some_there (without_group groups g) (parts q).stock.group ≡ true
@@ -208,7 +209,7 @@ more_keeps {phases = phases} {parts = parts} groups later h tree stays = record 
   quiet = h.quiet;
 }
   where
-    frame : (o : Option ℕ) → there_or_none groups o ≡ true → there_or_none later o ≡ true
+    frame : (o : Option ℕ) → is_there groups o ≡ true → is_there later o ≡ true
     frame None e = refl
     frame (Some g) e = stays g e
 
@@ -300,7 +301,7 @@ homes_step s seat (PassBack f) Done sound h legal ok counted =
     homes_part (homes_same h f _ (sent_keeper (s.phases f))) seat _ (h.stocks seat) (h.beyond seat) (at_visit (visits seat s.hold) visit)
 homes_step s seat (Collect f p) Done sound h legal ok counted = homes_phase h f _ (got_home (s.phases f) (h.frames f))
   where
-    got_home : (x : Phase) → there_or_none s.groups (keeper_of x) ≡ true → there_or_none s.groups (keeper_of (collected x)) ≡ true
+    got_home : (x : Phase) → is_there s.groups (keeper_of x) ≡ true → is_there s.groups (keeper_of (collected x)) ≡ true
     got_home InZone e = refl
     got_home (Lent q way) e = refl
     got_home (Head u old) e = e
@@ -315,7 +316,7 @@ homes_step s seat (Credit f) Stocked sound h legal ok counted =
     let is = fresh_is seat (s.phases f) fresh in
     let paid : PhasePaid s.zone.cpus (groups_in s.parts) (Head is.0 (FreshAt seat)) =
     subst (PhasePaid s.zone.cpus (groups_in s.parts)) is.1 (sound.frames f).paid in
-    let there : has_group s.groups is.0.group ≡ true = sym (ap (λ x. there_or_none s.groups (keeper_of x)) is.1) ∙ h.frames f in
+    let there : has_group s.groups is.0.group ≡ true = sym (ap (λ x. is_there s.groups (keeper_of x)) is.1) ∙ h.frames f in
     homes_part (homes_phase h f _ refl) seat _ (λ some. ap (some_there s.groups) paid.group ∙ there) (λ other. absurd (true≢false (sym cpu ∙ other)))
     (h.quiet seat)
 homes_step s seat (Report n) Done sound h legal ok counted =
@@ -344,13 +345,13 @@ homes_step s seat (PlaceBlock g k) (Placed b) sound h legal ok counted =
     (λ f. placed_home f (is_within b.at (2 ^ b.order) f) (f == b.at) there)
   where
     placed_home : (f : ℕ) (a c : Bool) → has_group s.groups g ≡ true →
-        there_or_none s.groups (keeper_of (cond a (cond c (Head (record { group = g; order = b.order }) Bare) (Tail g)) (s.phases f))) ≡ true
+        is_there s.groups (keeper_of (cond a (cond c (Head (record { group = g; order = b.order }) Bare) (Tail g)) (s.phases f))) ≡ true
     placed_home f true true e = e
     placed_home f true false e = e
     placed_home f false c e = h.frames f
 homes_step s seat (Return f) Done sound h legal ok counted = homes_phases h _ (λ x. back_home x (is_within f (unit_size (unit_of (s.phases f))) x))
   where
-    back_home : (x : ℕ) (a : Bool) → there_or_none s.groups (keeper_of (cond a InZone (s.phases x))) ≡ true
+    back_home : (x : ℕ) (a : Bool) → is_there s.groups (keeper_of (cond a InZone (s.phases x))) ≡ true
     back_home x true = refl
     back_home x false = h.frames x
 homes_step s seat (SetMax g limit) Done sound h legal ok counted =

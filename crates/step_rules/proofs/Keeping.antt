@@ -5,6 +5,7 @@ use Rattle.std.proofs.lemmas.Bool.{cases_Bool, cases_lt, false≢true}
 use Rattle.group_tree.specs.Groups.{has_group}
 use Rattle.group_tree.proofs.GroupLemmas.{AreGroups-initial}
 use Rattle.group_tree.proofs.AncestorLemmas.{parent_of-there}
+use Rattle.group_tree.specs.{is_there}
 use Rattle.step_rules.specs.declared.phase.Stage.TheVariants.{FreshAt}
 use Rattle.step_rules.specs.declared.phase.Phase.TheVariants.{Head}
 use Rattle.step_rules.specs.declared.step.Step.{Step}
@@ -12,7 +13,7 @@ use Rattle.step_rules.specs.declared.step.Action.{Action}
 use Rattle.step_rules.specs.declared.step.Answer.{Answer}
 use Rattle.step_rules.specs.Phases.{FreshFrame}
 use Rattle.step_rules.specs.{keeper_of, has_as, Zone, at_boot, front_of, Allows, no_page_pends, Run, after, state_of, IsLegalRun, StockIsKept}
-use Rattle.step_rules.specs.{AllKeepersAreThere, PhasePaid, groups_in, KeepsInvariant, there_or_none, some_there, IsHomed}
+use Rattle.step_rules.specs.{AllKeepersAreThere, PhasePaid, groups_in, KeepsInvariant, some_there, IsHomed}
 use Rattle.step_rules.specs.State.{State}
 use Rattle.step_rules.proofs.Lists.{front_stands, one_if_true}
 use Rattle.step_rules.proofs.PhaseLemmas.{fresh_is, equal_test}
@@ -61,7 +62,7 @@ book_there s p g sound h e more =
           let is = fresh_is p (s.phases f) fresh in
           let paid : PhasePaid s.zone.cpus (groups_in s.parts) (Head is.0 (FreshAt p)) =
           subst (PhasePaid s.zone.cpus (groups_in s.parts)) is.1 (sound.frames f).paid in
-          ap (some_there s.groups) (sym e ∙ paid.group) ∙ sym (ap (λ x. there_or_none s.groups (keeper_of x)) is.1) ∙ h.frames f
+          ap (some_there s.groups) (sym e ∙ paid.group) ∙ sym (ap (λ x. is_there s.groups (keeper_of x)) is.1) ∙ h.frames f
     ]
 
 kept_stock_of : (s : State) (p : ℕ) → KeepsInvariant s → IsHomed s → FitsStock (s.parts p) → StockIsKept s p
@@ -95,7 +96,7 @@ keepers_are_there zone run legal =
       groups = h.tree;
       numbers = λ g there. number_low s.groups g h.tree there;
       parents = λ g k e. parent_of-there s.groups g k h.tree e;
-      frames = λ f g e. sym (ap (there_or_none s.groups) e) ∙ h.frames f;
+      frames = λ f g e. sym (ap (is_there s.groups) e) ∙ h.frames f;
       parts = λ p. kept_stock_of s p both.0 h (stocks_fit zone run legal p);
       pending = h.pages;
       settled = λ all g. settled_all s h all g;

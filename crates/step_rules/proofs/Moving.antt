@@ -9,6 +9,7 @@ use Rattle.group_tree.specs.Groups.{has_group, in_subtree, with_group, with_limi
 use Rattle.group_tree.proofs.GroupLemmas.{CanMake, has_group-any}
 use Rattle.group_tree.proofs.CallerLemmas.{in_subtree-with, in_subtree-limited, in_subtree-flagged, in_subtree-without, in_subtree-with_new, in_subtree-above, in_subtree-below}
 use Rattle.zone_blocks.specs.declared.block.Block.{Block}
+use Rattle.group_tree.specs.{is_there, is_in_subtree}
 use Rattle.step_rules.specs.declared.phase.Hold.{Hold}
 use Rattle.step_rules.specs.declared.phase.Stage.TheVariants.{FreshAt, Bare, Live, AwaitsReturn}
 use Rattle.step_rules.specs.declared.phase.Phase.{Phase}
@@ -16,8 +17,8 @@ use Rattle.step_rules.specs.declared.phase.Phase.TheVariants.{InZone, Lent, Head
 use Rattle.step_rules.specs.{is_within, unit_size, with_block, without_unit, with_more, with_back, without_frame, paid, credited, consumed, filled}
 use Rattle.step_rules.specs.{drained, keeper_of, unit_of, has_as, is_free, passes_out, at_stage, passed_back, collected, stage_after_last, is_legal}
 use Rattle.step_rules.specs.{IsAnswer, IsCounted, UsageMoves, Zone, Part, with_at, one_if, is_cpu, is_frame, visits, front_of, with_last}
-use Rattle.step_rules.specs.{is_in_subtree, frames_kept, stock_in_subtree, pages_prepaid, pages_pending, usage_of, PhasePaid, groups_in}
-use Rattle.step_rules.specs.{KeepsInvariant, there_or_none, some_there, Homes, IsHomed}
+use Rattle.step_rules.specs.{frames_kept, stock_in_subtree, pages_prepaid, pages_pending, usage_of, PhasePaid, groups_in}
+use Rattle.step_rules.specs.{KeepsInvariant, some_there, Homes, IsHomed}
 use Rattle.step_rules.specs.declared.phase.Way.TheVariants.{PassingOut, OnList}
 use Rattle.step_rules.specs.declared.step.Action.{Action}
 use Rattle.step_rules.specs.declared.step.Action.TheVariants.{Lock, Put, Freeze, Unfreeze, PassOut, TakeIn, PassBack, Collect, Consume}
@@ -215,7 +216,7 @@ usage_falls zone hold groups later phases parts pending m homes stays =
     (λ h below. pages_less (in_subtree later m h) (in_subtree groups m h) (pending h) (pends h)) in
     omega arith
   where
-    frame : (o : Option ℕ) → there_or_none groups o ≡ true → one_if (is_in_subtree later m o) ≤ one_if (is_in_subtree groups m o)
+    frame : (o : Option ℕ) → is_there groups o ≡ true → one_if (is_in_subtree later m o) ≤ one_if (is_in_subtree groups m o)
     frame None e = omega arith
     frame (Some h) e = one_if_less (in_subtree later m h) (in_subtree groups m h) (stays h e)
 

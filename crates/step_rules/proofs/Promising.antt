@@ -9,7 +9,7 @@ use Rattle.std.proofs.lemmas.List.FromFn.{get_or-map-range_with_len, length-map-
 use Rattle.zone_blocks.specs.Areas.{IsFree}
 use Rattle.zone_blocks.proofs.Unique.{in_one_block, in_a_block_is_free}
 use Rattle.group_tree.specs.declared.group.Group.{Group}
-use Rattle.group_tree.specs.{has_group, in_subtree, limit_of, fits_limit}
+use Rattle.group_tree.specs.{has_group, in_subtree, limit_of, fits_limit, is_in_subtree}
 use Rattle.group_tree.proofs.CallerLemmas.{in_subtree-above}
 use Rattle.step_rules.specs.declared.phase.ChargedUnit.{ChargedUnit}
 use Rattle.step_rules.specs.declared.phase.Way.TheVariants.{OnList}
@@ -23,8 +23,8 @@ use Rattle.step_rules.specs.declared.step.Action.TheVariants.{Get, Put, Freeze, 
 use Rattle.step_rules.specs.declared.step.Answer.{Answer}
 use Rattle.step_rules.specs.declared.step.Answer.TheVariants.{Done, Held, Last, Took, Stocked, Granted, Placed}
 use Rattle.step_rules.specs.Phases.{FreshFrame}
-use Rattle.step_rules.specs.{is_free, is_live_phase, has_as, unit_of, keeper_of, is_head_in_hand, is_returnable, Zone, Stock, one_if, front_of}
-use Rattle.step_rules.specs.{is_cpu, free_in, live_references, times, is_in_subtree, usage_of, frames_kept, stock_in_subtree, pages_prepaid, is_legal}
+use Rattle.step_rules.specs.{is_free, is_live_phase, has_as, unit_of, keeper_of, is_head_in_hand, is_returnable, Zone, PartStock, one_if, front_of}
+use Rattle.step_rules.specs.{is_cpu, free_in, live_references, times, usage_of, frames_kept, stock_in_subtree, pages_prepaid, is_legal}
 use Rattle.step_rules.specs.{Allows, Run, state_of, IsLegalRun, limit_given, was_killed, InHand, units_after_run, is_same_frame_place, place_in}
 use Rattle.step_rules.specs.{phase_awaits_return, is_killed_return_phase, IsAllPlaced, ReturnsOnce, charged_in_subtree, StockIsKept, lent_to, Shown}
 use Rattle.step_rules.specs.{IsShown, Has, HasOnce, IsInUnit, IsInOnePlace, IsPrepaid, kept_in_subtree, prepaid_in_subtree, KeepsLimits}
@@ -210,7 +210,7 @@ module _ (zone : Zone) (run : Run) (legal : IsLegalRun zone run) (shown : Shown)
       kept = (keepers_are_there zone run legal).parts p
 
       pages : 1 ≤ (s.parts p).stock.pages
-      pages = let same : (shown.stocks p).pages ≡ (s.parts p).stock.pages = ap (λ (x : Stock). x.pages) (is.stocks p) in omega arith
+      pages = let same : (shown.stocks p).pages ≡ (s.parts p).stock.pages = ap (λ (x : PartStock). x.pages) (is.stocks p) in omega arith
 
       cpu : is_cpu zone p ≡ true
       cpu = elim (cases_Bool (is_cpu s.zone p)) [
@@ -221,7 +221,7 @@ module _ (zone : Zone) (run : Run) (legal : IsLegalRun zone run) (shown : Shown)
       by_group : (o : Option ℕ) → (s.parts p).stock.group ≡ o → (g : ℕ) × ((shown.stocks p).group ≡ Some g) × (has_group shown.groups g ≡ true)
       by_group None e = absurd (let none = kept.no_group e in let more = pages in omega arith)
       by_group (Some g) e =
-          (g, ap (λ (x : Stock). x.group) (is.stocks p) ∙ e, ap (λ (gs : List Group). has_group gs g) is.groups ∙ kept.stock g e pages)
+          (g, ap (λ (x : PartStock). x.group) (is.stocks p) ∙ e, ap (λ (gs : List Group). has_group gs g) is.groups ∙ kept.stock g e pages)
 
   kept_shown : (g : ℕ) → frames_kept s.groups s.phases s.zone.frames g ≡ kept_in_subtree shown s.zone.frames g
   kept_shown g = λ i. sum_to s.zone.frames (λ f. one_if (is_in_subtree (sym is.groups i) g (sym (is.keeper f) i)))

@@ -20,6 +20,14 @@ use Rattle.step_rules.specs.Phases.{FreshFrame, has_as, unit_of, at_stage, stage
 use Rattle.step_rules.specs.State.{Zone, Part, State, at_boot, with_at, one_if, without, with_last, front_of}
 use Rattle.step_rules.specs.Legal.{Allows}
 
+-- a step of the zone's own seat, with its answer
+abbrev pub zone_makes : Action → Answer → Step × Answer
+zone_makes action answer = (record { seat = 0; action = action }, answer)
+
+-- a step of a CPU's seat, with its answer
+abbrev pub cpu_makes : ℕ → Action → Answer → Step × Answer
+cpu_makes cpu action answer = (record { seat = cpu; action = action }, answer)
+
 -- one frame gets another phase
 abbrev pub with_phase : State → ℕ → Phase → State
 with_phase s f phase = record s { phases = with_at s.phases f phase }

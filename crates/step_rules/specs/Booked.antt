@@ -5,7 +5,7 @@ use Rattle.step_rules.specs.declared.step.Action.TheVariants.{PassBack, Report, 
 use Rattle.step_rules.specs.declared.step.Answer.{Answer}
 use Rattle.step_rules.specs.declared.step.Answer.TheVariants.{Done, Pages}
 use Rattle.step_rules.specs.Phases.{FreshFrame, BackFrame, has_as}
-use Rattle.step_rules.specs.State.{Zone, one_if, is_cpu, pins_of, times}
+use Rattle.step_rules.specs.State.{Zone, one_if, is_cpu, pins_of, times, most_fresh, most_pins}
 use Rattle.step_rules.specs.After.{Run, state_of, part_after, IsLegalRun}
 use Rattle.step_rules.specs.Units.{units_after_run}
 use Rattle.step_rules.specs.Returns.{counted_with_run}
@@ -42,8 +42,8 @@ pub record PartIsBooked (zone : Zone) (run : Run) (cpu : ℕ) : Type 0 where
       ≡ (part_after zone run cpu).unreported + counted_with_run (reported_in cpu) run
   pub reported : counted_with_run (reported_in cpu) run
       ≡ (part_after zone run cpu).reported + counted_with_run (absorbed_in cpu) run
-  pub few_fresh : length (part_after zone run cpu).fresh ≤ 32
-  pub few_pins : is_cpu zone cpu ≡ true → pins_of (state_of zone run) cpu + length (part_after zone run cpu).back ≤ 256
+  pub few_fresh : length (part_after zone run cpu).fresh ≤ most_fresh
+  pub few_pins : is_cpu zone cpu ≡ true → pins_of (state_of zone run) cpu + length (part_after zone run cpu).back ≤ most_pins
 
 -- after every legal run the fresh and back frames and the book of each CPU are as `PartIsBooked` says
 abbrev pub AllPartsAreBooked : Type 0

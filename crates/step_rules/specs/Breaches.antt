@@ -8,8 +8,8 @@ use Rattle.step_rules.specs.declared.step.Action.TheVariants.{Grant, PlaceBlock,
 use Rattle.step_rules.specs.declared.step.Answer.{Answer}
 use Rattle.step_rules.specs.declared.step.Answer.TheVariants.{Done, Held, Last, Took, Stocked, Granted, Placed, Number}
 use Rattle.step_rules.specs.State.{no_stock}
-use Rattle.step_rules.specs.After.{Run, IsLegalRun}
-use Rattle.step_rules.specs.Examples.{small_zone, made, first_visit, hand_over, life_of_a_frame, at_the_borders}
+use Rattle.step_rules.specs.After.{Run, IsLegalRun, cpu_makes, zone_makes}
+use Rattle.step_rules.specs.Examples.{small_zone, first_visit, hand_over, life_of_a_frame, at_the_borders}
 use Rattle.step_rules.specs.Promise.{Shown, KeepsLimits, ReturnsNoFrameTwice, Promise}
 
 -- after the run nothing that is shown keeps the promise
@@ -20,68 +20,68 @@ BreaksPromise run = (shown : Shown) → ¬ Promise small_zone run shown
 -- two pages are granted, one by one, to a group whose parent has a limit of one
 abbrev pub past_a_limit : Run
 past_a_limit =
-    made 1 Lock Done ∷ made 0 (Make (codes "/a")) (Number 1) ∷ made 0 (Make (codes "/a/b")) (Number 2)
-    ∷ made 0 (SetMax 1 (Some 1)) Done ∷ made 0 (Grant 2 1) Granted ∷ made 0 (Grant 2 1) Granted ∷ []
+    cpu_makes 1 Lock Done ∷ zone_makes (Make (codes "/a")) (Number 1) ∷ zone_makes (Make (codes "/a/b")) (Number 2)
+    ∷ zone_makes (SetMax 1 (Some 1)) Done ∷ zone_makes (Grant 2 1) Granted ∷ zone_makes (Grant 2 1) Granted ∷ []
 
 -- a page is granted to a killed group
 abbrev pub granted_when_killed : Run
-granted_when_killed = made 1 Lock Done ∷ made 0 (Kill 0) Done ∷ made 0 (Grant 0 1) Granted ∷ []
+granted_when_killed = cpu_makes 1 Lock Done ∷ zone_makes (Kill 0) Done ∷ zone_makes (Grant 0 1) Granted ∷ []
 
 -- ---- returns
 -- frame 0 is placed, for the root
 abbrev pub placed : Run
-placed = made 0 (PlaceBlock 0 0) (Placed (record { at = 0; order = 0 })) ∷ []
+placed = zone_makes (PlaceBlock 0 0) (Placed (record { at = 0; order = 0 })) ∷ []
 
 -- the last reference of frame 0 is dropped
 abbrev pub ended : Run
-ended = made 0 (Freeze 0 0) Done ∷ []
+ended = zone_makes (Freeze 0 0) Done ∷ []
 
 -- a unit is returned that never had a reference
 abbrev pub returned_unused : Run
-returned_unused = placed ++ made 0 (Return 0) Done ∷ []
+returned_unused = placed ++ zone_makes (Return 0) Done ∷ []
 
 -- a unit is returned on which a reference is left
 abbrev pub returned_in_use : Run
-returned_in_use = placed ++ made 0 (Unfreeze 0 2) Done ∷ made 0 (Freeze 0 1) Done ∷ made 0 (Return 0) Done ∷ []
+returned_in_use = placed ++ zone_makes (Unfreeze 0 2) Done ∷ zone_makes (Freeze 0 1) Done ∷ zone_makes (Return 0) Done ∷ []
 
 -- a frame is returned that heads no unit
 abbrev pub returned_in_no_unit : Run
-returned_in_no_unit = ended ++ made 0 (Return 0) Done ∷ []
+returned_in_no_unit = ended ++ zone_makes (Return 0) Done ∷ []
 
 -- a unit is returned twice for one end
 abbrev pub returned_again : Run
-returned_again = placed ++ made 0 (Unfreeze 0 1) Done ∷ made 0 (Freeze 0 1) Done ∷ made 0 (Return 0) Done
-    ∷ made 0 (Return 0) Done ∷ []
+returned_again = placed ++ zone_makes (Unfreeze 0 1) Done ∷ zone_makes (Freeze 0 1) Done ∷ zone_makes (Return 0) Done
+    ∷ zone_makes (Return 0) Done ∷ []
 
 -- a fresh frame is credited twice
 abbrev pub credited_again : Run
-credited_again = first_visit ++ made 1 (Consume 0) Took ∷ made 1 (Credit 0) Stocked ∷ made 1 (Credit 0) Stocked ∷ []
+credited_again = first_visit ++ cpu_makes 1 (Consume 0) Took ∷ cpu_makes 1 (Credit 0) Stocked ∷ cpu_makes 1 (Credit 0) Stocked ∷ []
 
 -- a fresh frame is credited to which a seat refers
 abbrev pub credited_in_use : Run
-credited_in_use = first_visit ++ made 1 (Consume 0) Took ∷ made 2 (Get 0) Held ∷ made 1 (Credit 0) Stocked ∷ []
+credited_in_use = first_visit ++ cpu_makes 1 (Consume 0) Took ∷ cpu_makes 2 (Get 0) Held ∷ cpu_makes 1 (Credit 0) Stocked ∷ []
 
 -- the front of an empty list is paid for
 abbrev pub consumed_nothing : Run
-consumed_nothing = made 1 (Consume 0) Took ∷ []
+consumed_nothing = cpu_makes 1 (Consume 0) Took ∷ []
 
 -- the front of a list is paid for, although a unit has the frame
 abbrev pub consumed_in_a_unit : Run
-consumed_in_a_unit = placed ++ made 1 (TakeIn 0) Done ∷ made 1 (Consume 0) Took ∷ []
+consumed_in_a_unit = placed ++ cpu_makes 1 (TakeIn 0) Done ∷ cpu_makes 1 (Consume 0) Took ∷ []
 
 -- a block is placed on the second frame of a unit
 abbrev pub placed_on_a_tail : Run
 placed_on_a_tail =
-    made 0 (PlaceBlock 0 1) (Placed (record { at = 0; order = 1 }))
-    ∷ made 0 (PlaceBlock 0 0) (Placed (record { at = 1; order = 0 })) ∷ []
+    zone_makes (PlaceBlock 0 1) (Placed (record { at = 0; order = 1 }))
+    ∷ zone_makes (PlaceBlock 0 0) (Placed (record { at = 1; order = 0 })) ∷ []
 
 -- a block of another order than asked for is placed
 abbrev pub placed_smaller : Run
-placed_smaller = made 0 (PlaceBlock 0 1) (Placed (record { at = 0; order = 0 })) ∷ []
+placed_smaller = zone_makes (PlaceBlock 0 1) (Placed (record { at = 0; order = 0 })) ∷ []
 
 -- a frame is placed to which a seat refers
 abbrev pub placed_in_use : Run
-placed_in_use = made 2 (Get 0) Held ∷ placed
+placed_in_use = cpu_makes 2 (Get 0) Held ∷ placed
 
 -- a frame is placed whose last reference was dropped and that wasn't returned since
 abbrev pub placed_ended : Run
@@ -89,15 +89,15 @@ placed_ended = ended ++ placed
 
 -- a frame is placed for a group that doesn't exist
 abbrev pub placed_for_nobody : Run
-placed_for_nobody = made 0 (PlaceBlock 5 0) (Placed (record { at = 0; order = 0 })) ∷ []
+placed_for_nobody = zone_makes (PlaceBlock 5 0) (Placed (record { at = 0; order = 0 })) ∷ []
 
 -- after the last reference another one is given
 abbrev pub given_after_the_last : Run
-given_after_the_last = ended ++ made 2 (Get 0) Held ∷ []
+given_after_the_last = ended ++ cpu_makes 2 (Get 0) Held ∷ []
 
 -- after the last reference one more is dropped, as the last
 abbrev pub put_after_the_last : Run
-put_after_the_last = ended ++ made 2 (Put 0) Last ∷ []
+put_after_the_last = ended ++ cpu_makes 2 (Put 0) Last ∷ []
 
 -- after the last reference the frame is frozen once more
 abbrev pub frozen_after_the_last : Run
@@ -105,11 +105,11 @@ frozen_after_the_last = ended ++ ended
 
 -- first references are put on a frame that heads no unit
 abbrev pub unfrozen_in_no_unit : Run
-unfrozen_in_no_unit = made 0 (Unfreeze 0 1) Done ∷ []
+unfrozen_in_no_unit = zone_makes (Unfreeze 0 1) Done ∷ []
 
 -- first references are put on a frame that has some
 abbrev pub unfrozen_in_use : Run
-unfrozen_in_use = placed ++ made 0 (Unfreeze 0 1) Done ∷ made 0 (Unfreeze 0 1) Done ∷ []
+unfrozen_in_use = placed ++ zone_makes (Unfreeze 0 1) Done ∷ zone_makes (Unfreeze 0 1) Done ∷ []
 
 -- ---- references
 -- The run is legal and one more step breaks the promise, although that step keeps the limits and returns no frame
@@ -138,7 +138,7 @@ referred_fully = take 6 at_the_borders
 
 -- a reference is given on a frame that has one, but heads no unit
 abbrev pub given_in_no_unit : Run
-given_in_no_unit = unfrozen_in_no_unit ++ made 2 (Get 0) Held ∷ []
+given_in_no_unit = unfrozen_in_no_unit ++ cpu_makes 2 (Get 0) Held ∷ []
 
 -- ---- what is shown
 -- frame 0 is kept for the root, frame 1 is free, and CPU 1 has a page of the root in its stock
@@ -250,7 +250,7 @@ prepaid_for_no_group = record shown_free {
 
 -- a page was granted and is neither in a stock nor kept: the memory.current shown for the root may not leave it out
 abbrev pub granted_and_lost : Run
-granted_and_lost = made 0 (Grant 0 1) Granted ∷ []
+granted_and_lost = zone_makes (Grant 0 1) Granted ∷ []
 
 -- nor may that memory.current count it, without a stock or a frame for it
 abbrev pub lost_in_number : Shown

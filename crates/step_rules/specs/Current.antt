@@ -1,10 +1,10 @@
 -- Usage (memory.current of cgroup-v2.rst), counted over a run: frames by their places, stocks and pending pages by what
 -- was put in and removed.
 use Rattle.std.specs.Prelude.{◌≡◌, ℕ, ◌+◌, ◌&&◌, if◌then◌else◌}
-use Rattle.group_tree.specs.{most_groups, in_subtree}
+use Rattle.group_tree.specs.{most_groups, in_subtree, is_in_subtree}
 use Rattle.step_rules.specs.declared.step.FramePlace.TheVariants.{Charged}
 use Rattle.step_rules.specs.State.{Zone, one_if, sum_to}
-use Rattle.step_rules.specs.Usage.{is_in_subtree, frames_kept, pages_prepaid, pages_pending, usage_of}
+use Rattle.step_rules.specs.Usage.{frames_kept, pages_prepaid, pages_pending, usage_of}
 use Rattle.step_rules.specs.After.{Run, state_of, IsLegalRun}
 use Rattle.step_rules.specs.Places.{places_of}
 use Rattle.step_rules.specs.Returns.{counted_with_state}

@@ -2,6 +2,7 @@
 use Rattle.std.specs.Prelude.{◌≡◌, ℕ, ◌+◌, ◌^◌, ◌<◌, ◌≤◌, Bool, true, false, Option, Some, None, List, length}
 use Rattle.group_tree.specs.declared.group.Group.{Group}
 use Rattle.group_tree.specs.Groups.{has_group, AreGroups}
+use Rattle.group_tree.specs.{is_there}
 use Rattle.step_rules.specs.declared.phase.Hold.{Hold}
 use Rattle.step_rules.specs.declared.phase.Hold.TheVariants.{Visiting}
 use Rattle.step_rules.specs.declared.phase.ChargedUnit.{ChargedUnit}
@@ -63,11 +64,6 @@ pub record StateInvariant (zone : Zone) (hold : Hold) (phases : ℕ → Phase) (
 abbrev pub KeepsInvariant : State → Type 0
 KeepsInvariant s = StateInvariant s.zone s.hold s.phases s.references s.parts
 
--- the group, if there is one, is there
-abbrev pub there_or_none : List Group → Option ℕ → Bool
-there_or_none groups None = true
-there_or_none groups (Some g) = has_group groups g
-
 -- there is a group, and it is there
 abbrev pub some_there : List Group → Option ℕ → Bool
 some_there groups None = false
@@ -80,7 +76,7 @@ told_pages part = part.unreported + part.reported
 -- the groups are a tree, each that keeps a frame or a page is there, and only a visit has pages that aren't absorbed
 pub record Homes (zone : Zone) (hold : Hold) (groups : List Group) (phases : ℕ → Phase) (parts : ℕ → Part) (pending : ℕ → ℕ) : Type 0 where
   pub tree : AreGroups groups
-  pub frames : (f : ℕ) → there_or_none groups (keeper_of (phases f)) ≡ true
+  pub frames : (f : ℕ) → is_there groups (keeper_of (phases f)) ≡ true
   pub stocks : (q : ℕ) → 1 ≤ (parts q).stock.pages → some_there groups (parts q).stock.group ≡ true
   pub beyond : (q : ℕ) → is_cpu zone q ≡ false → (parts q).stock.pages ≡ 0
   pub pages : (g : ℕ) → has_group groups g ≡ false → pending g ≡ 0

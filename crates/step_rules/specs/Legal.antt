@@ -14,8 +14,8 @@ use Rattle.step_rules.specs.declared.step.Answer.TheVariants.{Stocked, Pages, Gr
 use Rattle.step_rules.specs.Phases.{ListFrame, FreshFrame, is_free, is_head, has_as, passes_out, passes_back}
 use Rattle.step_rules.specs.Phases.{is_passing, is_head_in_hand, is_returnable}
 use Rattle.step_rules.specs.Phases as kinds
-use Rattle.step_rules.specs.State.{State, Part, all_to, front_of, is_cpu, is_frame, is_unheld, is_held_by, visits}
-use Rattle.step_rules.specs.State.{may_zone_act, live_references, pins_of, free_in}
+use Rattle.step_rules.specs.State.{State, Part, all_to, front_of, is_cpu, is_frame, is_unheld, is_held_by, visits, most_references, most_fresh}
+use Rattle.step_rules.specs.State.{may_zone_act, live_references, pins_of, free_in, most_pins}
 use Rattle.step_rules.specs.Usage.{usage_of}
 
 -- the frame is not in transit to or from the CPU
@@ -61,13 +61,13 @@ is_legal s seat (OpenVisit cpu) = may_zone_act s.hold seat && is_held_by cpu s.h
 is_legal s seat (ShutVisit cpu) = may_zone_act s.hold seat && visits cpu s.hold && nothing_passes s cpu
     && (s.parts cpu).unreported == 0 && (s.parts cpu).reported == 0
 is_legal s seat (Get f) = is_cpu s.zone seat && is_frame s.zone f
-    && nat_lt (pins_of s seat + length (s.parts seat).back) 256
+    && nat_lt (pins_of s seat + length (s.parts seat).back) most_pins
 is_legal s seat (Put f) = (is_cpu s.zone seat || may_zone_act s.hold seat) && is_frame s.zone f
     && nat_le 1 (s.references seat f)
 is_legal s seat (Freeze f n) = may_zone_act s.hold seat && is_frame s.zone f && nat_le 1 n
     && nat_le n (s.references 0 f)
 is_legal s seat (Unfreeze f n) = may_zone_act s.hold seat && is_frame s.zone f && is_head_in_hand (s.phases f)
-    && nat_le 1 n && nat_le n 255
+    && nat_le 1 n && nat_le n most_references
 is_legal s seat (PassOut f cpu) = may_zone_act s.hold seat && is_frame s.zone f && visits cpu s.hold
     && is_free (s.phases f)
 is_legal s seat (TakeIn f) = is_cpu s.zone seat && is_frame s.zone f && passes_out seat (s.phases f)
@@ -75,7 +75,7 @@ is_legal s seat (PassBack f) = is_cpu s.zone seat && is_frame s.zone f && visits
 is_legal s seat (Collect f cpu) = may_zone_act s.hold seat && is_frame s.zone f && is_cpu s.zone cpu
     && passes_back cpu (s.phases f)
 is_legal s seat (Consume g) = is_cpu s.zone seat && nat_le 1 (length (s.parts seat).list)
-    && nat_lt (length (s.parts seat).fresh) 32
+    && nat_lt (length (s.parts seat).fresh) most_fresh
 is_legal s seat (Credit f) = is_cpu s.zone seat && is_frame s.zone f && has_as FreshFrame seat (s.phases f)
 is_legal s seat (Report n) = is_cpu s.zone seat && visits seat s.hold && nat_le n (s.parts seat).unreported
 is_legal s seat (Absorb cpu) = may_zone_act s.hold seat && visits cpu s.hold
@@ -144,9 +144,9 @@ IsAnswer s seat (Remove g) Done = Unit {0}
 IsAnswer s seat (Kill g) Done = Unit {0}
 IsAnswer s seat action answer = ⊥
 
--- what a get is answered with this many references: Held with 1 to 254, Full with 255, else Zero
+-- what a get is answered with this many references: Held if there are some and one more can be, Full with the most, else Zero
 abbrev pub get_answer : ℕ → Answer
-get_answer live = if nat_le 1 live && nat_le live 254 then Held else (if live == 255 then Full else Zero)
+get_answer live = if nat_le 1 live && nat_le live 254 then Held else (if live == most_references then Full else Zero)
 
 -- What others' references and stocks decide. A get depends on all references on the frame, a put on how many are left,
 -- a freeze on whether they are exactly this many, and a drain on the pages of the stock.

@@ -34,17 +34,19 @@ pub use Rattle.step_rules.specs.Phases.{Kind, at_stage, collected, has_as, has_s
 pub use Rattle.step_rules.specs.Phases.{is_passing, is_returnable, is_returning, is_stage_in_hand, is_stage_passing, is_stage_returnable, keeper_of}
 pub use Rattle.step_rules.specs.Phases.{passed_back, passes_back, passes_out, stage_after_last, stage_collected, stage_passed_back, stage_passes_back}
 pub use Rattle.step_rules.specs.Phases.{unit_of}
-pub use Rattle.step_rules.specs.State.{Part, Stock, Zone, all_to, at_boot, frames_of, free_in, front_of, is_cpu, is_frame, is_held_by, is_unheld}
+pub use Rattle.step_rules.specs.State.{Part, PartStock, Zone, all_to, at_boot, frames_of, free_in, front_of, is_cpu, is_frame, is_held_by, is_unheld}
+pub use Rattle.step_rules.specs.State.{most_fresh, most_pins, most_references}
 pub use Rattle.step_rules.specs.State.{live_references, may_zone_act, no_part, one_if, pins_of, sum_to, times, visits, with_at, with_last, without}
-pub use Rattle.step_rules.specs.Usage.{frames_kept, is_in_subtree, pages_pending, pages_prepaid, stock_in_subtree, usage_of}
+pub use Rattle.step_rules.specs.Usage.{frames_kept, pages_pending, pages_prepaid, stock_in_subtree, usage_of}
 pub use Rattle.step_rules.specs.Legal.{Allows, IsAnswer, IsCounted, IsMade, get_answer, is_legal, is_of_group, is_passable, is_removable}
 pub use Rattle.step_rules.specs.Legal.{no_frame_passes, no_page_pends, nothing_passes, rests, takes_fill}
 pub use Rattle.step_rules.specs.After.{IsLegalRun, Run, absorbed, after, after_last, consumed, credited, drained, filled, is_within, paid, part_after}
+pub use Rattle.step_rules.specs.After.{cpu_makes, zone_makes}
 pub use Rattle.step_rules.specs.After.{placed_phase, state_of, unit_size, with_back, with_block, with_listed, with_more, with_part, with_pending}
 pub use Rattle.step_rules.specs.After.{with_phase, with_references, with_report, with_unlisted, without_frame, without_unit}
 pub use Rattle.step_rules.specs.Views.{holds_lock, other_part_seen, parts_seen_by, phase_seen_by, references_seen_by, seen_by, stage_seen_by}
 pub use Rattle.step_rules.specs.Invariant.{FrameFits, Homes, IsBooked, IsHomed, IsPaid, KeepsInvariant, PhasePaid, StateInvariant, groups_in}
-pub use Rattle.step_rules.specs.Invariant.{some_there, there_or_none, told_pages}
+pub use Rattle.step_rules.specs.Invariant.{some_there, told_pages}
 pub use Rattle.step_rules.specs.Laws.{IsLocalStep, OtherStepIsHidden, OwnStepIsLegal, ShowsLocal, is_of_lock, pushed}
 pub use Rattle.step_rules.specs.Counts.{BooksAreCounted, ReferencesAreCounted, StocksAreCounted, book_gained, book_lost, count_at, counted}
 pub use Rattle.step_rules.specs.Counts.{references_gained, references_lost, stock_gained, stock_lost}
@@ -54,7 +56,7 @@ pub use Rattle.step_rules.specs.Returns.{awaits_return_after, counted_with_run, 
 pub use Rattle.step_rules.specs.Returns.{is_killed_return_phase, is_killed_return_stage, phase_awaits_return, uses_closed, uses_ended}
 pub use Rattle.step_rules.specs.Grants.{NoGrantPassesALimit, PendingIsCounted, pending_in, pending_out}
 pub use Rattle.step_rules.specs.Examples.{at_the_borders, credited_twice, group_comes_and_goes, group_dies_whole, group_killed_whole, in_line}
-pub use Rattle.step_rules.specs.Examples.{killed_group_ends, life_of_a_frame, lock_taken, made, noted_events, returned_twice, returned_when_killed}
+pub use Rattle.step_rules.specs.Examples.{killed_group_ends, life_of_a_frame, lock_taken, noted_events, returned_twice, returned_when_killed}
 pub use Rattle.step_rules.specs.Examples.{small_zone, stock_without_a_page, unlocked_too_soon, vain_visit, with_back_frames, with_fresh_frames}
 pub use Rattle.step_rules.specs.Examples.{with_pins}
 pub use Rattle.step_rules.specs.Events.{EventsAreCounted, count_after, event_key, event_of, events_in, events_local_in, group_noted, is_noted_at}

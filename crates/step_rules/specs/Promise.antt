@@ -8,7 +8,7 @@ use Rattle.std.specs.List.{Contains}
 use Rattle.zone_blocks.specs.declared.block.Block.{Block}
 use Rattle.zone_blocks.specs.{Covers, AreMaximalBlocks, IsInOneBlock}
 use Rattle.group_tree.specs.declared.group.Group.{Group}
-use Rattle.group_tree.specs.{has_group, in_subtree, fits_limit}
+use Rattle.group_tree.specs.{has_group, in_subtree, fits_limit, is_in_subtree}
 use Rattle.step_rules.specs.declared.step.FramePlace.{FramePlace}
 use Rattle.step_rules.specs.declared.step.FramePlace.TheVariants.{Free, LentTo, Charged}
 use Rattle.step_rules.specs.declared.step.Action.{Action}
@@ -16,8 +16,8 @@ use Rattle.step_rules.specs.declared.step.Action.TheVariants.{Get, Put, Freeze, 
 use Rattle.step_rules.specs.declared.step.Answer.{Answer}
 use Rattle.step_rules.specs.declared.step.Answer.TheVariants.{Done, Held, Last, Took, Stocked, Granted, Placed}
 use Rattle.step_rules.specs.Phases.{keeper_of}
-use Rattle.step_rules.specs.State.{Zone, Stock, State, one_if, sum_to, front_of, is_cpu, is_unheld, free_in, times}
-use Rattle.step_rules.specs.Usage.{is_in_subtree, usage_of}
+use Rattle.step_rules.specs.State.{Zone, PartStock, State, one_if, sum_to, front_of, is_cpu, is_unheld, free_in, times}
+use Rattle.step_rules.specs.Usage.{usage_of}
 use Rattle.step_rules.specs.After.{Run, state_of, IsLegalRun}
 use Rattle.step_rules.specs.Folds.{limit_given, was_killed}
 use Rattle.step_rules.specs.Units.{units_after_run}
@@ -34,7 +34,7 @@ pub record Shown : Type 0 where
   pub lists : ℕ → List ℕ
   pub keeper : ℕ → Option ℕ
   pub groups : List Group
-  pub stocks : ℕ → Stock
+  pub stocks : ℕ → PartStock
   pub current : ℕ → ℕ
 
 -- What is shown is this state: the areas are the maximal blocks of its free frames, each memory.current is the group's

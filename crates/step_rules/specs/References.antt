@@ -4,7 +4,7 @@ use Rattle.step_rules.specs.declared.step.Action.{Action}
 use Rattle.step_rules.specs.declared.step.Action.TheVariants.{Get, Put, Freeze}
 use Rattle.step_rules.specs.declared.step.Answer.{Answer}
 use Rattle.step_rules.specs.declared.step.Answer.TheVariants.{Done, Held, Zero, Full, Left, Last}
-use Rattle.step_rules.specs.State.{Zone, sum_to}
+use Rattle.step_rules.specs.State.{Zone, sum_to, most_references}
 use Rattle.step_rules.specs.After.{Run}
 use Rattle.step_rules.specs.Units.{units_after_run}
 use Rattle.step_rules.specs.Counts.{references_gained, references_lost, counted}
@@ -23,10 +23,10 @@ references_on zone run f = sum_to (zone.cpus + 1) (λ seat. references_had run s
 -- references, at least one: all that seat 0 has, and it leaves none.
 abbrev pub CountsReferences : Zone → Run → Run → ℕ → Action → Answer → Type 0
 CountsReferences zone run next seat (Get f) Held = (is_some ((units_after_run run).unit f) ≡ true)
-    × (1 ≤ references_on zone run f) × (references_on zone run f < 255)
+    × (1 ≤ references_on zone run f) × (references_on zone run f < most_references)
     × (references_on zone next f ≡ references_on zone run f + 1)
 CountsReferences zone run next seat (Get f) Zero = references_on zone run f ≡ 0
-CountsReferences zone run next seat (Get f) Full = references_on zone run f ≡ 255
+CountsReferences zone run next seat (Get f) Full = references_on zone run f ≡ most_references
 CountsReferences zone run next seat (Put f) (Left n) = (1 ≤ references_had run seat f)
     × (references_on zone next f ≡ n) × (1 ≤ n)
 CountsReferences zone run next seat (Put f) Last = (1 ≤ references_had run seat f) × (references_on zone next f ≡ 0)

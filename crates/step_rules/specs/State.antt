@@ -10,13 +10,25 @@ use Rattle.step_rules.specs.declared.phase.Phase.{Phase}
 use Rattle.step_rules.specs.declared.phase.Phase.TheVariants.{InZone}
 use Rattle.step_rules.specs.Phases.{Kind, ListFrame, FreshFrame, BackFrame, is_free}
 
+-- the most references that a frame can have
+abbrev pub most_references : ℕ
+most_references = 255
+
+-- how many fresh frames a CPU has at most
+abbrev pub most_fresh : ℕ
+most_fresh = 32
+
+-- how many pins and back frames a CPU has at most, together
+abbrev pub most_pins : ℕ
+most_pins = 256
+
 -- the sizes of a zone: how many frames it has, and how many CPUs
 pub record Zone : Type 0 where
   pub frames : ℕ
   pub cpus : ℕ
 
 -- a CPU's stock: the group of its last fill, the pages that it holds, and whether it was drained since
-pub record Stock : Type 0 where
+pub record PartStock : Type 0 where
   pub group : Option ℕ
   pub pages : ℕ
   pub is_drained : Bool
@@ -28,7 +40,7 @@ pub record Part : Type 0 where
   pub list : List ℕ
   pub fresh : List ℕ
   pub back : List ℕ
-  pub stock : Stock
+  pub stock : PartStock
   pub book : ℕ
   pub unreported : ℕ
   pub reported : ℕ
@@ -46,7 +58,7 @@ pub record State : Type 0 where
   pub pending : ℕ → ℕ
 
 -- a stock that was never filled
-abbrev pub no_stock : Stock
+abbrev pub no_stock : PartStock
 no_stock = record { group = None; pages = 0; is_drained = false }
 
 -- a CPU's part at boot

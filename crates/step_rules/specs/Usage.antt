@@ -1,15 +1,10 @@
 -- Usage (memory.current of cgroup-v2.rst).
-use Rattle.std.specs.Prelude.{ℕ, ◌+◌, Bool, false, Option, Some, None, List, if◌then◌else◌}
+use Rattle.std.specs.Prelude.{ℕ, ◌+◌, List, if◌then◌else◌}
 use Rattle.group_tree.specs.declared.group.Group.{Group}
-use Rattle.group_tree.specs.{most_groups, in_subtree}
+use Rattle.group_tree.specs.{most_groups, in_subtree, is_in_subtree}
 use Rattle.step_rules.specs.declared.phase.Phase.{Phase}
 use Rattle.step_rules.specs.Phases.{keeper_of}
 use Rattle.step_rules.specs.State.{State, Part, one_if, sum_to}
-
--- there is a group, and it is in the subtree
-abbrev pub is_in_subtree : List Group → ℕ → Option ℕ → Bool
-is_in_subtree groups g None = false
-is_in_subtree groups g (Some h) = in_subtree groups g h
 
 -- how many of the first n frames the group's subtree keeps
 abbrev pub frames_kept : List Group → (ℕ → Phase) → ℕ → ℕ → ℕ

@@ -4,8 +4,8 @@
 ghost use Rattle.std.specs.Prelude.{[]};
 ghost use Rattle.step_rules.specs.declared.step.Action.TheVariants.{Get, Put, Freeze};
 ghost use Rattle.step_rules.specs.declared.step.Answer.TheVariants.{Done, Held, Zero, Full, Left, Last};
-ghost use Rattle.step_rules.specs.After.{IsLegalRun, state_of};
-ghost use Rattle.step_rules.specs.Examples.{small_zone, made, life_of_a_frame};
+ghost use Rattle.step_rules.specs.After.{IsLegalRun, state_of, cpu_makes, zone_makes};
+ghost use Rattle.step_rules.specs.Examples.{small_zone, life_of_a_frame};
 ghost use Rattle.step_rules.specs.Promise.{IsShown, Promise};
 ghost use Rattle.step_rules.specs.Breaches.{BreaksPromise, past_a_limit, granted_when_killed, returned_unused};
 ghost use Rattle.step_rules.specs.Breaches.{returned_in_use, returned_in_no_unit, returned_again, credited_again};
@@ -64,28 +64,28 @@ pub fn a_reference_after_the_last_breaks_the_promise()
 /// that never had any. So it does at 255 references, for a seat that doesn't exist, and on a frame that heads no unit.
 /// Zero breaks it if there is a reference, Full if there are fewer than 255.
 pub fn a_reference_given_wrongly_breaks_the_promise()
-    ensures free { MiscountsReferences kept_run (made 2 (Get 1) Held) }
-    ensures returned { MiscountsReferences life_of_a_frame (made 2 (Get 0) Held) }
-    ensures unreferred { MiscountsReferences never_referred (made 2 (Get 0) Held) }
-    ensures nobody { MiscountsReferences kept_run (made 3 (Get 0) Held) }
-    ensures past_255 { MiscountsReferences referred_fully (made 2 (Get 0) Held) }
+    ensures free { MiscountsReferences kept_run (cpu_makes 2 (Get 1) Held) }
+    ensures returned { MiscountsReferences life_of_a_frame (cpu_makes 2 (Get 0) Held) }
+    ensures unreferred { MiscountsReferences never_referred (cpu_makes 2 (Get 0) Held) }
+    ensures nobody { MiscountsReferences kept_run (cpu_makes 3 (Get 0) Held) }
+    ensures past_255 { MiscountsReferences referred_fully (cpu_makes 2 (Get 0) Held) }
     ensures in_no_unit { BreaksPromise given_in_no_unit }
-    ensures zero { MiscountsReferences kept_run (made 2 (Get 0) Zero) }
-    ensures full { MiscountsReferences kept_run (made 2 (Get 0) Full) }
+    ensures zero { MiscountsReferences kept_run (cpu_makes 2 (Get 0) Zero) }
+    ensures full { MiscountsReferences kept_run (cpu_makes 2 (Get 0) Full) }
 {}
 
 /// A put breaks the promise if the seat has no reference, if it leaves another number than its answer says, or if that
 /// number is 0. Last breaks it if a reference is left. A freeze breaks it if another seat has a reference, or if it
 /// takes none, or more than seat 0 has.
 pub fn a_reference_dropped_wrongly_breaks_the_promise()
-    ensures anothers { MiscountsReferences kept_run (made 2 (Put 0) (Left 1)) }
-    ensures too_many_left { MiscountsReferences referred_twice (made 2 (Put 0) (Left 2)) }
-    ensures left_none { MiscountsReferences referred_by_one (made 2 (Put 0) (Left 0)) }
-    ensures last_of_none { MiscountsReferences kept_run (made 2 (Put 1) Last) }
-    ensures last_of_two { MiscountsReferences referred_twice (made 2 (Put 0) Last) }
-    ensures frozen_elsewhere { MiscountsReferences referred_twice (made 0 (Freeze 0 1) Done) }
-    ensures frozen_too_many { MiscountsReferences referred_fully (made 0 (Freeze 0 256) Done) }
-    ensures frozen_none { MiscountsReferences never_referred (made 0 (Freeze 0 0) Done) }
+    ensures anothers { MiscountsReferences kept_run (cpu_makes 2 (Put 0) (Left 1)) }
+    ensures too_many_left { MiscountsReferences referred_twice (cpu_makes 2 (Put 0) (Left 2)) }
+    ensures left_none { MiscountsReferences referred_by_one (cpu_makes 2 (Put 0) (Left 0)) }
+    ensures last_of_none { MiscountsReferences kept_run (cpu_makes 2 (Put 1) Last) }
+    ensures last_of_two { MiscountsReferences referred_twice (cpu_makes 2 (Put 0) Last) }
+    ensures frozen_elsewhere { MiscountsReferences referred_twice (zone_makes (Freeze 0 1) Done) }
+    ensures frozen_too_many { MiscountsReferences referred_fully (zone_makes (Freeze 0 256) Done) }
+    ensures frozen_none { MiscountsReferences never_referred (zone_makes (Freeze 0 0) Done) }
 {}
 
 /// What is shown after a small run keeps the promise: one frame kept, one free, and one page in a stock.
@@ -97,7 +97,7 @@ pub fn what_is_shown_rightly_keeps_the_promise()
 
 /// Shown states that are wrong in one thing break the promise. A frame is nowhere, in two places, twice on a list, on
 /// the list of no CPU, kept without a unit, or not of the zone. A page is prepaid for no group, or left out. No group
-/// is shown, or a group that was never made, or a limit that was never set.
+/// is shown, or a group that was never or a limit that was never set.
 pub fn what_is_shown_wrongly_breaks_the_promise()
     ensures nowhere { IsShownWrongly seen_nowhere }
     ensures twice { IsShownWrongly seen_twice }

@@ -33,7 +33,7 @@ pub struct Step {
 /// The events that are noted by a step of their own.
 #[derive(Clone, Copy, PartialEq, Eq)]
 pub enum NoteKey {
-    /// Pages of the group were reclaimed that its memory.low protects.
+    /// A third pass of reclaim freed pages of the group, of which memory.low protects more than memory.min.
     Low,
     /// The usage of the group was about to go over its memory.high.
     High,

@@ -41,14 +41,6 @@ state_seen watch = state_reached watch.core
 abbrev pub known_log : {Z : Type 0} → Option (Vec ℕ Z) → Option (List ℕ)
 known_log log = option_map (λ text. text.items) log
 
--- a step of the zone's own seat, with its answer
-abbrev pub zone_makes : Action → Answer → Step × Answer
-zone_makes action answer = (record { seat = 0; action = action }, answer)
-
--- a step of a CPU's seat, with its answer
-abbrev pub cpu_makes : ℕ → Action → Answer → Step × Answer
-cpu_makes cpu action answer = (record { seat = cpu; action = action }, answer)
-
 -- what is built is this action with this answer, and nothing else
 abbrev pub Builds : (Action × Answer → Type 0) → Action → Answer → Type 0
 Builds built action answer = (made : Action × Answer) → built made → made ≡ (action, answer)

@@ -1,11 +1,12 @@
 //! The watch, and how it takes a step.
 
 ghost use Rattle.std.specs.Prelude.{◌≡◌, ◌∷◌, [], ◌+◌, ◌++◌, IfOk, IsTrue};
+ghost use Rattle.step_rules.specs.After.{cpu_makes};
 ghost use Rattle.log_lines.specs.Line.{entry_text};
 ghost use Rattle.mem_core.specs.{state_shown, zone_of_config, Leads};
 ghost use Rattle.step_rules.specs.declared.step.Action.{Action};
 ghost use Rattle.step_rules.specs.declared.step.Answer.{Answer};
-ghost use Rattle.step_watch.specs.Watched.{Accepts, Adds, Builds, IsNewLog, IsNewWatch, Watches, cpu_makes};
+ghost use Rattle.step_watch.specs.Watched.{Accepts, Adds, Builds, IsNewLog, IsNewWatch, Watches};
 ghost use Rattle.step_watch.specs.Watched.{has_legal_steps, has_whole_log, known_log, log_text, steps_seen, watch_off};
 ghost use Rattle.zone_blocks.specs.Config.{IsValidConfig};
 

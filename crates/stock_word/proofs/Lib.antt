@@ -1,2 +1,1 @@
 pub mod Stocks
-pub mod Deals

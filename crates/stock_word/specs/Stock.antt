@@ -1,20 +1,26 @@
--- What a stock word says, its encoding, and what a seat knows of the stocks.
-use Rattle.std.specs.Prelude.{ℕ, zero, suc, ◌+◌, ◌*◌, ◌<◌, Bool, true, false, List, [], ◌∷◌, Option, Some, None}
-use Rattle.stock_word.specs.declared.view.Stock.{Stock}
-use Rattle.stock_word.specs.declared.view.Stock.TheVariants.{NoGroup, HeldBy, DrainedOf}
-use Rattle.stock_word.specs.declared.view.StockAccount.{StockAccount}
-use Rattle.stock_word.specs.declared.view.StockView.{StockView}
+-- What a stock word says, and which words are a CPU's.
+use Rattle.std.specs.Prelude.{ℕ, ◌+◌, ◌*◌, ◌<◌, Bool, true, false, Option, Some, None}
+use Rattle.stock_word.specs.declared.stock.Stock.{Stock}
+use Rattle.stock_word.specs.declared.stock.Stock.TheVariants.{NoGroup, HeldBy, DrainedOf}
+
+-- how much a group counts in a stock's word: the pages are below this
+abbrev pub group_base : ℕ
+group_base = 65536
+
+-- the word of a drained stock is this or more
+abbrev pub drained_base : ℕ
+drained_base = 4294967296
 
 -- the word of a stock
 abbrev pub word_of : Stock → ℕ
 word_of NoGroup = 0
-word_of (HeldBy g n) = (g + 1) * 65536 + n
-word_of (DrainedOf g) = 4294967296 + (g + 1) * 65536
+word_of (HeldBy g n) = (g + 1) * group_base + n
+word_of (DrainedOf g) = drained_base + (g + 1) * group_base
 
--- the stock has a word: its group is one of 64, and its pages are at most 65,535
+-- the stock has a word: its group is one of 64, and its pages are below `group_base`
 abbrev pub HasWord : Stock → Type 0
 HasWord NoGroup = Unit {0}
-HasWord (HeldBy g n) = (g < 64) × (n < 65536)
+HasWord (HeldBy g n) = (g < 64) × (n < group_base)
 HasWord (DrainedOf g) = g < 64
 
 -- the pages in a stock
@@ -41,16 +47,10 @@ drained_of NoGroup = NoGroup
 drained_of (HeldBy g n) = DrainedOf g
 drained_of (DrainedOf g) = DrainedOf g
 
--- the account of a CPU whose stock was never filled
-abbrev pub no_account : StockAccount
-no_account = record { book = 0; group = None; filled = false; unabsorbed = 0 }
+-- the index of the CPU's stock word
+abbrev pub stock_index : ℕ → ℕ
+stock_index cpu = 16 * cpu
 
--- the account of this CPU; past the end, that of a CPU whose stock was never filled
-abbrev pub stock_account_at : List StockAccount → ℕ → StockAccount
-stock_account_at [] cpu = no_account
-stock_account_at (a ∷ accounts) zero = a
-stock_account_at (a ∷ accounts) (suc cpu) = stock_account_at accounts cpu
-
--- the zone's account of the CPU
-abbrev pub account_of : StockView → ℕ → StockAccount
-account_of zone cpu = stock_account_at zone.accounts cpu
+-- the index of the CPU's report word, next to its stock word
+abbrev pub report_index : ℕ → ℕ
+report_index cpu = 16 * cpu + 1

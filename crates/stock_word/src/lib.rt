@@ -1,4 +1,4 @@
-//! Pages prepaid for a CPU: the rule of its stock word and its report word. The words themselves are in the one table of
+//! Pages prepaid for a CPU: what its stock word and its report word say. The words themselves are in the one table of
 //! `boot_words`.
 //!
 //! Each CPU has the row of its number, of sixteen words: word 0 is its stock word, word 1 its report word. The others
@@ -13,8 +13,8 @@
 //! A report word is a number of pages.
 #![tactic(auto)]
 
-mod view;
-mod words;
+mod answers;
+mod stock;
 
-pub use view::{Stock, StockAccount, StockView};
-pub use words::{Consume, Credit};
+pub use answers::{Consume, Credit};
+pub use stock::Stock;

@@ -39,8 +39,8 @@ fn run_system<N: BootName, R: Wait>(
     boot: Boot,
     text: &mut String,
 ) -> Result<SystemEnd>
-    requires { boot.frames ≡ N.frames }
-    ensures { IfOk result (HasEnded N.frames) }
+    requires { boot.table ≡ N.table }
+    ensures { IfOk result (HasEnded N.table) }
 {
     let (system, mut cpus) = boot.start::<N>(alloc)?;
     let done = run_demo(rt, &system, &mut cpus, text);
@@ -109,7 +109,7 @@ fn ask<N: BootName, R: Wait>(
     cmd: &LockedCommand<'_>,
     text: &mut String,
 ) -> Result<()>
-    requires { IsOfZone N.frames cmd.now }
+    requires { IsOfZone N.table cmd.now }
 {
     Ok(write_reply(&system.visit(rt, cpu, cmd), text)?)
 }

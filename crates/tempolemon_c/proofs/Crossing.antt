@@ -2,8 +2,8 @@
 use Rattle.std.proofs.Common.{◌∙◌, ℕ, Some, None, ap}
 use Rattle.std.proofs.lemmas.Bool.{false≢true}
 use Rattle.std.specs.Prelude.{IsSome, IsSomeAnd, Option}
-use Rattle.frame_word.specs.Seats.{KnownTable}
 use Rattle.control_files.specs.declared.file.File.{File}
+use Rattle.boot_words.specs.Tables.{KnownTable}
 use Rattle.tempolemon_c.specs.{GroupHasFiles, KnownLive, OnRaw, HasFileBehind, OnBoot, boot_of}
 
 -- what was done to the boot that the pointer leads to was done to the boot behind the handle

@@ -1,12 +1,12 @@
 -- A group is found by its path, and so a frame that is taken for the group is taken for its path. Serves `take_frame`.
 use Rattle.std.proofs.Common.{◌≡◌, ℕ, Some, List, refl, subst}
 use Rattle.std.specs.Borrow.{Bor}
-use Rattle.frame_word.specs.Seats.{KnownTable}
 use Rattle.group_tree.specs.declared.group.Group.{Group}
 use Rattle.group_tree.specs.Groups.{AreGroups, number_at, path_of}
 use Rattle.group_tree.proofs.GroupLemmas.{group_at-contains, number_at-there, path_of-is}
 use Rattle.group_charge.specs.Charges.{AreCharges, Ledger}
 use Rattle.script_lines.specs.declared.line.Command.TheVariants as cmd
+use Rattle.boot_words.specs.Tables.{KnownTable}
 use Rattle.script_replay.specs.declared.answer_value.AnswerValue.{AnswerValue}
 use Rattle.script_replay.specs.ValueAnswers.{NamesItsGroups, SaysCommand, answer_of}
 use Rattle.tempolemon_c.specs.{CallsLive, IsCpu, SameButState, KnownLive}

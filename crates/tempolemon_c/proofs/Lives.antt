@@ -2,10 +2,9 @@
 use Rattle.std.proofs.Common.{◌≡◌, ◌∙◌, ℕ, zero, suc, Some, List, [], ◌∷◌, ◌++◌, ap, append_assoc, inl, inr, refl, subst, sym}
 use Rattle.std.specs.Prelude.{◌⊎◌, Option, false, take}
 use Rattle.std.proofs.lemmas.Bool.{cases_lt}
-use Rattle.frame_word.specs.Seats.{KnownTable}
 use Rattle.zone_blocks.specs.declared.config.Config.{Config}
 use Rattle.step_rules.specs.After.{Run}
-use Rattle.boot_words.specs.{zone_of_boot, IsRunOf}
+use Rattle.boot_words.specs.{zone_of_boot, IsRunOf, KnownTable}
 use Rattle.mem_core.specs.Promise.{AlwaysKeepsPromise}
 use Rattle.reply_texts.specs.Answers.{answer_text}
 use Rattle.script_lines.specs.declared.line.Line.TheVariants.{At}

@@ -1,7 +1,7 @@
 -- What a typed call does to the boot behind a handle, and what it gives the host.
 use Rattle.std.specs.Prelude.{◌≡◌, ◌≢◌, ◌⊎◌, ◌↔◌, ℕ, ◌%◌, ◌^◌, ◌<◌, ◌≤◌, List, [], Option, None, length}
 use Rattle.std.specs.Borrow.{Bor}
-use Rattle.frame_word.specs.Seats.{KnownTable}
+use Rattle.boot_words.specs.Tables.{KnownTable}
 use Rattle.mem_system.specs.declared.command.ReplyWithText.{ReplyWithText}
 use Rattle.mem_system.specs.declared.command.ReplyWithText.TheVariants as reply
 use Rattle.mem_system.specs.declared.outcome.Outcome.{Outcome}
@@ -14,14 +14,18 @@ use Rattle.script_lines.specs.declared.line.Command.TheVariants as cmd
 use Rattle.script_lines.specs.declared.line.FrameAct.TheVariants.{Dirty}
 use Rattle.tempolemon_c.specs.declared.calls.Call.{Call}
 use Rattle.tempolemon_c.specs.declared.calls.Call.TheVariants as call
+use Rattle.tempolemon_c.specs.declared.calls.PinCheck.{PinCheck}
+use Rattle.tempolemon_c.specs.declared.calls.PinCheck.TheVariants as check
+use Rattle.group_tree.specs.Faults.{number_of}
+use Rattle.group_tree.specs.declared.fault.Fault.TheVariants.{BadOrder, NotPinned, PinsFull}
 use Rattle.control_files.specs.declared.file.File.{File}
-use Rattle.tempolemon_c.specs.HandleCalls.{GroupHasFiles, IsCpu, Means, NamesMissingFrame, NamesMissingGroup, RefusesCall, ServesLiveCommand}
+use Rattle.tempolemon_c.specs.HandleCalls.{ChecksPin, GroupHasFiles, IsCpu, Means, NamesMissingFrame, NamesMissingGroup, RefusesCall, ServesLiveCommand}
 use Rattle.tempolemon_c.specs.Known.{KnownLive}
 use Rattle.script_replay.specs.ValueAnswers.{NamesItsGroups, answer_of}
 use Rattle.script_replay.specs.declared.answer_value.AnswerValue.{AnswerValue}
 use Rattle.script_replay.specs.declared.answer_value.AnswerValue.TheVariants as value
 use Rattle.tempolemon_c.specs.Handles.{LiveBoot, OnBoot}
-use Rattle.host_memory.specs.{PutsText, no_result, bad_cpu, bad_frame, bad_group, done, not_live, small_buffer}
+use Rattle.host_memory.specs.{PutsText, no_result, result_with, bad_cpu, bad_frame, bad_group, done, not_live, small_buffer}
 use Rattle.host_memory.specs.declared.typed_result.TypedResult.{TypedResult}
 use Rattle.tempolemon_c.specs.Kinds.{result_of, status_of}
 use Rattle.tempolemon_c.specs.Statuses.{IsNotServedStatus, most_refusal}
@@ -140,6 +144,77 @@ abbrev pub AllocatesDirtyBehind : (cpu group order : ℕ) → (before after : Op
     → TypedResult → Type 0
 AllocatesDirtyBehind cpu group order before after status out =
     AllocatesNone cpu group order before after status out ⊎ AllocatesThenNotes cpu group order before after status out
+
+-- the kind of a pin that is held
+abbrev pub held_kind : ℕ
+held_kind = 14
+
+-- the result of a refusal that names no group
+abbrev pub refusal_result : TypedResult
+refusal_result = result_with 20 0
+
+-- the CPU behind the handle may have one more pin, of a block of this order
+abbrev pub MayPinBehind : (cpu order : ℕ) → Option LiveBoot → Type 0
+MayPinBehind cpu order before = OnBoot (λ frames from to. ChecksPin cpu order check.May from to) before before
+
+-- the status and the result of a call that asks this first
+abbrev pub IsCheckResult : PinCheck → (status : ℕ) → TypedResult → Type 0
+IsCheckResult check.May status out = ⊥
+IsCheckResult check.NoCpu status out = (status ≡ bad_cpu) × (out ≡ no_result)
+IsCheckResult check.PinsFull status out = (status ≡ number_of PinsFull) × (out ≡ refusal_result)
+IsCheckResult check.BadOrder status out = (status ≡ number_of BadOrder) × (out ≡ refusal_result)
+
+-- the CPU behind the handle may not have one more pin, of a block of this order, and this says so
+pub record MayNotPin (cpu order : ℕ) (before : Option LiveBoot) (status : ℕ) (out : TypedResult) : Type 0 where
+  pub why : PinCheck
+  pub checks : OnBoot (λ frames from to. ChecksPin cpu order why from to) before before
+  pub says : IsCheckResult why status out
+
+-- there is no boot behind the handle; or a CPU of it may not have one more pin, of a block of this order
+abbrev pub RefusesPinBehind : (cpu order : ℕ) → (before : Option LiveBoot) (status : ℕ) → TypedResult → Type 0
+RefusesPinBehind cpu order before status out =
+    ((before ≡ None) × (status ≡ not_live) × (out ≡ no_result)) ⊎ MayNotPin cpu order before status out
+
+-- the CPU asked for a pin of the frame that this result names, and holds it; the result is that of the allocation
+pub record PinsGiven (cpu : ℕ) (given : TypedResult) (before after : Option LiveBoot) (status : ℕ) (out : TypedResult)
+    : Type 0 where
+  pub asked : ℕ
+  pub got : TypedResult
+  pub pins : CallsBehind cpu (call.Script (cmd.Get (frame_of given))) before after asked got
+  pub is_held : got.kind ≡ held_kind
+  pub status_is : status ≡ done
+  pub out_is : out ≡ given
+
+-- the CPU asked for a pin of that frame, and doesn't hold it; the block was released again
+pub record ReleasesGiven (cpu : ℕ) (given : TypedResult) (before after : Option LiveBoot) (status : ℕ)
+    (out : TypedResult) : Type 0 where
+  pub missed : Option LiveBoot
+  pub asked : ℕ
+  pub got : TypedResult
+  pub released : ℕ
+  pub left : TypedResult
+  pub pins : CallsBehind cpu (call.Script (cmd.Get (frame_of given))) before missed asked got
+  pub not_held : got.kind ≢ held_kind
+  pub releases : CallsBehind cpu (call.Script (cmd.Release (frame_of given))) missed after released left
+  pub status_is : status ≡ number_of NotPinned
+  pub out_is : out ≡ refusal_result
+
+-- an allocation was done and gave this result, and right after it the CPU asked for a pin
+pub record AllocatesThenPins (cpu group order : ℕ) (before after : Option LiveBoot) (status : ℕ) (out : TypedResult)
+    : Type 0 where
+  pub between : Option LiveBoot
+  pub given : TypedResult
+  pub allocates : CallsBehind cpu (call.Alloc group order) before between done given
+  pub then : PinsGiven cpu given between after status out ⊎ ReleasesGiven cpu given between after status out
+
+-- What an allocation of a pinned block does. Whether the CPU may have one more pin is looked at first, and if not,
+-- nothing is done.
+abbrev pub AllocatesPinnedBehind : (cpu group order : ℕ) → (before after : Option LiveBoot) (status : ℕ)
+    → TypedResult → Type 0
+AllocatesPinnedBehind cpu group order before after status out =
+    (RefusesPinBehind cpu order before status out × (after ≡ before))
+    ⊎ MayPinBehind cpu order before
+    × (AllocatesNone cpu group order before after status out ⊎ AllocatesThenPins cpu group order before after status out)
 
 -- the buffer is refused as too small, and nothing was done
 pub record IsTooSmall (before after : Option LiveBoot) (status : ℕ) (out : TypedResult) (old new : List ℕ)

@@ -1,10 +1,12 @@
 -- What a call means, and what it does to a live boot.
-use Rattle.std.specs.Prelude.{◌≡◌, ◌⊎◌, ℕ, ◌≤◌, List, Some, false}
-use Rattle.frame_word.specs.Seats.{KnownTable}
+use Rattle.std.specs.Prelude.{◌≡◌, ◌⊎◌, ℕ, ◌+◌, ◌-◌, ◌<◌, ◌≤◌, List, Some, false, length, slice_get}
 use Rattle.group_tree.specs.{most_groups, has_group, path_of}
 use Rattle.group_tree.specs.declared.group.Group.{Group}
 use Rattle.group_charge.specs.Charges.{Ledger}
 use Rattle.control_files.specs.declared.file.File.{File}
+use Rattle.boot_words.specs.Tables.{KnownTable}
+use Rattle.step_rules.specs.State.{most_pins}
+use Rattle.mem_system.specs.{CpuInRun}
 use Rattle.mem_system.specs.declared.command.ReplyWithText.{ReplyWithText}
 use Rattle.mem_system.specs.declared.command.ReplyWithText.TheVariants as reply
 use Rattle.mem_system.specs.declared.outcome.Outcome.TheVariants as outcome
@@ -19,6 +21,8 @@ use Rattle.tempolemon_c.specs.declared.calls.Call.{Call}
 use Rattle.tempolemon_c.specs.declared.calls.Call.TheVariants as call
 use Rattle.tempolemon_c.specs.declared.calls.CallAnswer.{CallAnswer}
 use Rattle.tempolemon_c.specs.declared.calls.CallAnswer.TheVariants as returned
+use Rattle.tempolemon_c.specs.declared.calls.PinCheck.{PinCheck}
+use Rattle.tempolemon_c.specs.declared.calls.PinCheck.TheVariants as check
 use Rattle.tempolemon_c.specs.declared.calls.FileText.{FileText}
 use Rattle.tempolemon_c.specs.declared.calls.FileText.TheVariants as file_text
 
@@ -98,6 +102,34 @@ CallsLive frames cpu asked from to returned.NoFrame =
     RefusesCall (IsCpu from.sizes.cpus cpu × NamesMissingFrame from.sizes.frames asked) from to
 CallsLive frames cpu asked from to returned.NoGroup =
     RefusesCall (IsCpu from.sizes.cpus cpu × NamesMissingGroup from.state.locked.machine.ledger.groups asked) from to
+
+-- `Is` holds of the CPU of this number
+pub record IsOfCpu (cpu : ℕ) (Is : CpuInRun → Type 0) (live : KnownLive) : Type 0 where
+  pub part : CpuInRun
+  pub is_part : slice_get live.state.cpus (cpu - 1) ≡ Some part
+  pub is : Is part
+
+-- the CPU has fewer pins and back frames than it can have
+abbrev pub MayPinOneMore : CpuInRun → Type 0
+MayPinOneMore part = length part.part.back + length part.part.pins < most_pins
+
+-- a block has this order: 1 to 10
+abbrev pub IsOrderOfBlock : ℕ → Type 0
+IsOrderOfBlock order = (1 ≤ order) × (order ≤ 10)
+
+-- Whether a CPU may have one more pin, of a block of this order. The CPU is looked for first, and then its pins are
+-- counted.
+abbrev pub IsPinCheck : (cpu order : ℕ) → KnownLive → PinCheck → Type 0
+IsPinCheck cpu order live check.NoCpu = ¬ IsCpu live.sizes.cpus cpu
+IsPinCheck cpu order live check.PinsFull = IsCpu live.sizes.cpus cpu × IsOfCpu cpu (λ part. ¬ MayPinOneMore part) live
+IsPinCheck cpu order live check.BadOrder =
+    IsCpu live.sizes.cpus cpu × IsOfCpu cpu MayPinOneMore live × (¬ IsOrderOfBlock order)
+IsPinCheck cpu order live check.May = IsCpu live.sizes.cpus cpu × IsOfCpu cpu MayPinOneMore live × IsOrderOfBlock order
+
+-- that was asked, and nothing is done
+pub record ChecksPin (cpu order : ℕ) (check : PinCheck) (from to : KnownLive) : Type 0 where
+  pub is : IsPinCheck cpu order from check
+  pub stays : to ≡ from
 
 -- the group exists, and isn't the root, which has no files
 abbrev pub GroupHasFiles : (group : ℕ) → File → KnownLive → Type 0

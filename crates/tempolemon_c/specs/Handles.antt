@@ -1,8 +1,8 @@
 -- What contracts see of a host's handle, and what the calls do to the boot behind it.
 use Rattle.std.specs.Prelude.{◌≡◌, ℕ, Bool, List, [], Option, None, Some}
-use Rattle.frame_word.specs.Seats.{KnownTable}
 use Rattle.zone_blocks.specs.declared.config.Config.{Config}
 use Rattle.zone_blocks.specs.Config.{IsValidConfig}
+use Rattle.boot_words.specs.Tables.{KnownTable}
 use Rattle.load_run.specs.{IsNewBootState, EndsHeld}
 use Rattle.load_run.specs.declared.boot_end.BootEnd.{BootEnd}
 use Rattle.tempolemon_c.specs.Known.{KnownLive}

@@ -8,9 +8,9 @@ use Rattle.std.specs.Box.Ownership.{box_owns}
 use Rattle.std.specs.Coded.{coded_option}
 use Rattle.std.specs.Global.{Global}
 use Rattle.core.specs.contracts.marker.Brand as Brand
+use Rattle.boot_words.specs.Tables.{KnownTable}
 use Rattle.std_heap.specs.contracts.GlobalAllocator.TheImpl.{ghosts}
 use Rattle.boot_words.specs.contracts.raw.BootWords as BootWords
-use Rattle.frame_word.specs.Seats.{KnownTable}
 use Rattle.tempolemon_c.specs.Known.{KnownLive}
 use Rattle.tempolemon_c.specs.contracts.live.Live as Live
 use Rattle.tempolemon_c.specs.declared.live.Live as Known
@@ -25,7 +25,7 @@ brand = Brand.the_row
 
 -- the parts of a boot of this table, under a name
 abbrev pub live_row : RattleType → KnownTable → RattleType
-live_row name frames = Live.the_row name (record { frames = frames })
+live_row name frames = Live.the_row name (record { table = frames })
 
 -- how the parts of a boot are stored, if there are any
 abbrev pub known_coded : Coded (Option KnownLive)

@@ -1,7 +1,7 @@
 -- What each request does to a live boot.
 use Rattle.std.specs.Prelude.{◌≡◌, [], Option, None, Some}
-use Rattle.frame_word.specs.Seats.{KnownTable}
 use Rattle.zone_blocks.specs.declared.config.Config.{Config}
+use Rattle.boot_words.specs.Tables.{KnownTable}
 use Rattle.load_run.specs.{IsNewBootState, EndsHeld}
 use Rattle.load_run.specs.declared.boot_end.BootEnd.{BootEnd}
 use Rattle.tempolemon_c.specs.Known.{KnownLive}
@@ -13,7 +13,7 @@ use Rattle.tempolemon_c.specs.declared.requests.RequestAnswer.TheVariants as ret
 
 -- the table after a request: a start brings its own, else it stays
 abbrev pub frames_after_request : KnownTable → Request → KnownTable
-frames_after_request frames (Start alloc boot sizes) = boot.frames
+frames_after_request frames (Start alloc boot sizes) = boot.table
 frames_after_request frames (Lines alloc text is_explained) = frames
 frames_after_request frames (StoreUnread text) = frames
 frames_after_request frames (TakeUnread alloc) = frames

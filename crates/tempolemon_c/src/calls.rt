@@ -32,6 +32,19 @@ pub enum CallAnswer {
     NoGroup,
 }
 
+/// Whether a CPU may have one more pin, of a new block.
+#[derive(Clone, Copy, Debug, PartialEq, Eq)]
+pub enum PinCheck {
+    /// It may.
+    May,
+    /// The zone has no such CPU.
+    NoCpu,
+    /// The CPU's pins and back frames are as many as it can have.
+    PinsFull,
+    /// The order isn't 1 to 10.
+    BadOrder,
+}
+
 /// What a file of a group shows.
 #[derive(Clone, Copy, Debug, PartialEq, Eq)]
 pub enum FileText {

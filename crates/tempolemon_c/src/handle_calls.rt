@@ -2,15 +2,15 @@
 
 ghost use Rattle.std.specs.Prelude.{◌≡◌, ◌↔◌, IsSome, IsSomeAnd, IsTrue, MatchBool, None, Some};
 ghost use Rattle.zone_blocks.specs.Config.{IsValidConfig};
-ghost use Rattle.tempolemon_c.specs.HandleCalls.{CallsLive, IsTypedCall, ShowsFile};
+ghost use Rattle.tempolemon_c.specs.HandleCalls.{CallsLive, ChecksPin, IsTypedCall, ShowsFile};
 ghost use Rattle.tempolemon_c.specs.Behind.{behind};
 ghost use Rattle.tempolemon_c.specs.Asking.{AsksBehind, IsBetween};
 ghost use Rattle.tempolemon_c.specs.Calls.{HasFileBehind};
 ghost use Rattle.tempolemon_c.specs.Handles.{BootsNew, EndsBoot, OnBoot};
 
-use crate::calls::{Call, CallAnswer, FileText};
+use crate::calls::{Call, CallAnswer, FileText, PinCheck};
 use crate::handle::Handle;
-use crate::raw::{RawBoot, call_raw, serve_raw, show_raw};
+use crate::raw::{RawBoot, call_raw, check_pin_raw, serve_raw, show_raw};
 use crate::report::report_of;
 use crate::requests::{Request, RequestAnswer};
 use control_files::file::File;
@@ -68,6 +68,19 @@ impl Handle {
         let (raw, answer) = call_raw(raw, cpu, call);
         self.raw = raw;
         answer
+    }
+
+    /// Whether the CPU of this number may have one more pin, of a block of this order.
+    #[tactic(auto, using(crate::proofs::Crossing::crossed, crate::proofs::Crossing::some_behind))]
+    pub(crate) fn check_pin(&mut self, alloc: Global, cpu: u32, order: u32) -> PinCheck
+        requires live { IsSome (behind self.old) }
+        ensures { OnBoot (λ frames from to. ChecksPin cpu order result from to)
+            (behind self.old) (behind self.new) }
+    {
+        let raw = std::mem::replace(&mut self.raw, RawBoot::none(alloc));
+        let (raw, check) = check_pin_raw(raw, cpu, order);
+        self.raw = raw;
+        check
     }
 
     /// What a file of a group shows. The group exists, and isn't the root, which has no files.

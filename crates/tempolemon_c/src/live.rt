@@ -7,14 +7,14 @@ ghost use Rattle.mem_system.specs.{IsSizedAs, HasItsGroups, reply_of};
 ghost use Rattle.script_replay.specs.{system_state, CpuCommandInRange, terms, HasValueAnswer};
 ghost use Rattle.load_run.specs.{IsNewBootState, EndsHeld};
 ghost use Rattle.tempolemon_c.specs.HandleCalls.{CallsLive, HasNoGroup, IsCpu, IsTypedCall, ReturnsCommandAnswer};
-ghost use Rattle.tempolemon_c.specs.HandleCalls.{file_reply};
+ghost use Rattle.tempolemon_c.specs.HandleCalls.{IsPinCheck, file_reply};
 ghost use Rattle.tempolemon_c.specs.declared.calls.Call.TheVariants.{Alloc, Script};
 ghost use Rattle.tempolemon_c.specs.Commands.{AnswersScript, FailsScript, FailsText, ReplaysText, TakesUnreadAnswer};
 ghost use Rattle.tempolemon_c.specs.Commands.{with_unread_answer};
 
-use crate::calls::{Call, CallAnswer, FileText, frame_named};
+use crate::calls::{Call, CallAnswer, FileText, PinCheck, frame_named};
 use control_files::file::{File, file_text};
-use cpu_part::{BootName, Tables};
+use cpu_part::{BootName, MAX_PINS, Tables};
 use group_charge::charges::Charges;
 use group_tree::group::GroupId;
 use load_run::boot_end::{BootEnd, end_boot};
@@ -26,6 +26,7 @@ use script_replay::{Form, alloc_value, replay, serve_value};
 use std::alloc::{AllocError, Global};
 use std::marker::Model;
 use zone_blocks::config::Config;
+use zone_blocks::order::Order;
 
 /// A boot between calls: what lies behind the lock, the tables, a part for each CPU in order, the sizes, and an answer
 /// that a buffer had no room for. If it is dropped, the boot ends.
@@ -51,16 +52,16 @@ impl<N: BootName> Model for Live<N> {
       unread_answer = l.unread_answer.items;
     } };
 
-    ghost invariant = { λ l. (length l.cpus.items ≡ N.frames.cpus) × IsSizedAs l.sizes N.frames };
+    ghost invariant = { λ l. (length l.cpus.items ≡ N.table.cpus) × IsSizedAs l.sizes N.table };
 }
 
 impl<N: BootName> Live<N> {
     /// Starts a boot of these sizes under a name of its table. `AllocError` means that memory ran out: nothing is left
     /// then.
     pub fn start(alloc: Global, boot: Boot, sizes: Config) -> Result<Live<N>, AllocError>
-        requires frames { boot.frames ≡ N.frames }
+        requires frames { boot.table ≡ N.table }
         requires sizes { boot.sizes ≡ sizes }
-        ensures first { IfOk result (λ live. IsNewBootState sizes N.frames live.state) }
+        ensures first { IfOk result (λ live. IsNewBootState sizes N.table live.state) }
         ensures sizes { IfOk result (λ live. live.sizes ≡ sizes) }
         ensures unread_answer { IfOk result (λ live. live.unread_answer ≡ []) }
     {
@@ -83,8 +84,8 @@ impl<N: BootName> Live<N> {
         is_explained: bool,
     ) -> Result<Vec<u8>, ScriptFault>
         ensures answered { IfOk result (λ answers.
-            AnswersScript N.frames text.now is_explained answers.items self.old self.new) }
-        ensures fault { IfErr result (FailsScript N.frames text.now is_explained self.old self.new) }
+            AnswersScript N.table text.now is_explained answers.items self.old self.new) }
+        ensures fault { IfErr result (FailsScript N.table text.now is_explained self.old self.new) }
     {
         serve_lines(
             alloc,
@@ -102,7 +103,7 @@ impl<N: BootName> Live<N> {
     #[inline(always)]
     pub fn call(&mut self, cpu: u32, call: &Call<'_>) -> CallAnswer
         requires { IsTypedCall call.now }
-        ensures { CallsLive N.frames cpu call.now self.old self.new result }
+        ensures { CallsLive N.table cpu call.now self.old self.new result }
     {
         if cpu == 0 || cpu as usize > self.cpus.len() {
             return CallAnswer::NoCpu;
@@ -119,7 +120,7 @@ impl<N: BootName> Live<N> {
     fn serve_command(&mut self, cpu: u32, command: &Command<'_>) -> CallAnswer
         requires there { IsCpu (length self.old.state.cpus) cpu }
         requires asked { IsTypedCall (Script command.now) }
-        ensures { CallsLive N.frames cpu (Script command.now) self.old self.new result }
+        ensures { CallsLive N.table cpu (Script command.now) self.old self.new result }
     {
         match frame_named(command) {
             Some(frame) => {
@@ -136,9 +137,9 @@ impl<N: BootName> Live<N> {
     // small enough to be.
     #[inline(never)]
     fn serve(&mut self, cpu: u32, command: &Command<'_>) -> CallAnswer
-        requires there { CpuCommandInRange N.frames.frames (length self.old.state.cpus) cpu command.now }
+        requires there { CpuCommandInRange N.table.frames (length self.old.state.cpus) cpu command.now }
         requires has_value { HasValueAnswer command.now }
-        ensures { ReturnsCommandAnswer N.frames cpu command.now self.old self.new result }
+        ensures { ReturnsCommandAnswer N.table cpu command.now self.old self.new result }
     {
         self.serve_inlined(cpu, command)
     }
@@ -146,9 +147,9 @@ impl<N: BootName> Live<N> {
     // Does the same for a command that names a frame. It is inlined, since a get and a put have few steps.
     #[inline(always)]
     fn serve_inlined(&mut self, cpu: u32, command: &Command<'_>) -> CallAnswer
-        requires there { CpuCommandInRange N.frames.frames (length self.old.state.cpus) cpu command.now }
+        requires there { CpuCommandInRange N.table.frames (length self.old.state.cpus) cpu command.now }
         requires has_value { HasValueAnswer command.now }
-        ensures { ReturnsCommandAnswer N.frames cpu command.now self.old self.new result }
+        ensures { ReturnsCommandAnswer N.table cpu command.now self.old self.new result }
     {
         CallAnswer::Served(serve_value(
             &mut self.locked,
@@ -162,7 +163,7 @@ impl<N: BootName> Live<N> {
     // Takes a block for the group of this number, at a CPU that is there.
     fn allocate(&mut self, cpu: u32, group: u32, order: u32) -> CallAnswer
         requires there { IsCpu (length self.old.state.cpus) cpu }
-        ensures { CallsLive N.frames cpu (Alloc group order) self.old self.new result }
+        ensures { CallsLive N.table cpu (Alloc group order) self.old self.new result }
     {
         let Some(group) = find_group(self.locked.charges(), group) else {
             return CallAnswer::NoGroup;
@@ -181,10 +182,28 @@ impl<N: BootName> Live<N> {
     fn take_frame(&mut self, cpu: u32, group: GroupId) -> CallAnswer
         requires there { IsCpu (length self.old.state.cpus) cpu }
         requires group { IsTrue (has_group self.old.state.locked.machine.ledger.groups group) }
-        ensures { CallsLive N.frames cpu (Alloc group 0) self.old self.new result }
+        ensures { CallsLive N.table cpu (Alloc group 0) self.old self.new result }
     {
         let _path = self.locked.charges().tree().path_of(group).as_bytes(); // Called for its contract.
         CallAnswer::Served(alloc_value(&mut self.locked, &self.tables, &mut self.cpus, cpu, group))
+    }
+
+    /// Whether the CPU of this number may have one more pin, of a block of this order. The CPU is looked for first, and
+    /// then its pins are counted.
+    pub fn check_pin(&self, cpu: u32, order: u32) -> PinCheck
+        ensures { IsPinCheck cpu order self.now result }
+    {
+        if cpu < 1 || self.cpus.len() < cpu as usize {
+            return PinCheck::NoCpu;
+        }
+        let part = &self.cpus[(cpu - 1) as usize];
+        if part.back_len() + part.pin_count() == MAX_PINS {
+            return PinCheck::PinsFull;
+        }
+        if order == 0 || order > Order::GREATEST {
+            return PinCheck::BadOrder;
+        }
+        PinCheck::May
     }
 
     /// What a file of a group shows. The group exists, and isn't the root, which has no files.
@@ -214,7 +233,7 @@ impl<N: BootName> Live<N> {
 
     /// Ends the boot. Pins that are still held are put first.
     pub fn finish(self) -> BootEnd
-        ensures ends { EndsHeld N.frames self.state result }
+        ensures ends { EndsHeld N.table self.state result }
     {
         let Live {
             locked,
@@ -257,11 +276,11 @@ fn serve_lines<N: BootName>(
     text: &[u8],
     is_explained: bool,
 ) -> Result<Vec<u8>, ScriptFault>
-    requires sized { IsSizedAs sizes.now N.frames }
-    requires count { length cpus.old ≡ N.frames.cpus }
-    ensures answered { IfOk result (λ answers. ReplaysText (terms N.frames is_explained) sizes.now text.now
+    requires sized { IsSizedAs sizes.now N.table }
+    requires count { length cpus.old ≡ N.table.cpus }
+    ensures answered { IfOk result (λ answers. ReplaysText (terms N.table is_explained) sizes.now text.now
         (system_state locked.old cpus.old) (system_state locked.new cpus.new) answers.items) }
-    ensures fault { IfErr result (FailsText (terms N.frames is_explained) sizes.now text.now
+    ensures fault { IfErr result (FailsText (terms N.table is_explained) sizes.now text.now
         (system_state locked.old cpus.old) (system_state locked.new cpus.new)) }
 {
     let form = Form {

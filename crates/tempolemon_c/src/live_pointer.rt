@@ -1,7 +1,7 @@
 //! A pointer to the parts of a boot under a name, or to nothing.
 
 ghost use Rattle.std.specs.Prelude.{◌≡◌, IsSome, None, Option, Some};
-ghost use Rattle.frame_word.specs.Seats.{KnownTable};
+ghost use Rattle.boot_words.specs.Tables.{KnownTable};
 ghost use Rattle.tempolemon_c.specs.Known.{KnownLive};
 ghost use Rattle.tempolemon_c.specs.Owned.{frames_coded, known_coded, live_owns};
 
@@ -29,7 +29,7 @@ impl<B> Model for LivePointer<B> {
 impl<N: BootName> LivePointer<N> {
     /// A pointer to nothing.
     pub fn none(alloc: Global) -> LivePointer<N>
-        ensures { (result.frames ≡ N.frames) × (result.live ≡ None) }
+        ensures { (result.frames ≡ N.table) × (result.live ≡ None) }
     {
         LivePointer {
             ptr: std::ptr::null_mut(),
@@ -39,7 +39,7 @@ impl<N: BootName> LivePointer<N> {
 
     /// A pointer to what is in this box.
     pub fn of(parts: BoxParts<Live<N>, Global>) -> LivePointer<N>
-        ensures { (result.frames ≡ N.frames) × (result.live ≡ Some parts.value) }
+        ensures { (result.frames ≡ N.table) × (result.live ≡ Some parts.value) }
     {
         let BoxParts { ptr, alloc } = parts;
         LivePointer {
@@ -50,7 +50,7 @@ impl<N: BootName> LivePointer<N> {
 
     /// The box with what it points to.
     pub fn into_box_parts(self) -> BoxParts<Live<N>, Global>
-        requires { IsSome self.live × (self.frames ≡ N.frames) }
+        requires { IsSome self.live × (self.frames ≡ N.table) }
         ensures { Some result.value ≡ self.live }
     {
         let LivePointer { ptr, alloc } = self;

@@ -1,16 +1,16 @@
 //! A pointer to the parts of a boot, or to nothing, without a name.
 
 ghost use Rattle.std.specs.Prelude.{◌≡◌, IsSome, IsSomeAnd, None, Option};
-ghost use Rattle.frame_word.specs.Seats.{KnownTable};
-ghost use Rattle.tempolemon_c.specs.HandleCalls.{CallsLive, GroupHasFiles, IsTypedCall, ShowsFile};
+ghost use Rattle.boot_words.specs.Tables.{KnownTable};
+ghost use Rattle.tempolemon_c.specs.HandleCalls.{CallsLive, ChecksPin, GroupHasFiles, IsTypedCall, ShowsFile};
 ghost use Rattle.tempolemon_c.specs.Known.{KnownLive};
 ghost use Rattle.tempolemon_c.specs.Owned.{brand, frames_coded, known_coded, live_owns};
 ghost use Rattle.tempolemon_c.specs.Serving.{IsFit, OnRaw, ServesRaw};
 
-use crate::calls::{Call, CallAnswer, FileText};
+use crate::calls::{Call, CallAnswer, FileText, PinCheck};
 use crate::live_pointer::LivePointer;
 use crate::requests::{Request, RequestAnswer};
-use crate::serving::{serve, serve_call, show_file};
+use crate::serving::{call_pointer, check_pin, serve, show_file};
 use control_files::file::File;
 use group_tree::group::GroupId;
 use std::alloc::Global;
@@ -74,7 +74,7 @@ pub fn serve_raw(raw: RawBoot, request: Request) -> (RawBoot, RequestAnswer)
     (RawBoot::of(pointer), answer)
 }
 
-/// Serves a call of the CPU of this number, as `serve_call` does, under the name that it picks for the table. Only a
+/// Serves a call of the CPU of this number, as `call_pointer` does, under the name that it picks for the table. Only a
 /// pointer to the call crosses, and no memory is taken.
 ///
 /// It is inlined, so that a caller that names the call has its steps alone: see `serve_value`.
@@ -85,7 +85,7 @@ pub fn call_raw(raw: RawBoot, cpu: u32, call: &Call<'_>) -> (RawBoot, CallAnswer
     ensures serves { OnRaw (λ from to. CallsLive raw.frames cpu call.now from to result.1)
         raw.frames raw.live result.0.frames result.0.live }
 {
-    let (pointer, answer) = serve_call::<Brand>(raw.into_pointer(), cpu, call);
+    let (pointer, answer) = call_pointer::<Brand>(raw.into_pointer(), cpu, call);
     (RawBoot::of(pointer), answer)
 }
 
@@ -97,6 +97,16 @@ pub fn show_raw(raw: RawBoot, group: GroupId, file: File) -> (RawBoot, FileText)
 {
     let (pointer, shown) = show_file::<Brand>(raw.into_pointer(), group, file);
     (RawBoot::of(pointer), shown)
+}
+
+/// Whether a CPU may have one more pin, as `check_pin` says, under the name that it picks for the table.
+pub fn check_pin_raw(raw: RawBoot, cpu: u32, order: u32) -> (RawBoot, PinCheck)
+    requires some { IsSome raw.live }
+    ensures checks { OnRaw (λ from to. ChecksPin cpu order result.1 from to)
+        raw.frames raw.live result.0.frames result.0.live }
+{
+    let (pointer, check) = check_pin::<Brand>(raw.into_pointer(), cpu, order);
+    (RawBoot::of(pointer), check)
 }
 
 fn crosses<T: Send>(value: T) -> T {

@@ -1,11 +1,11 @@
 //! Serving requests under the name of a boot's table.
 
 ghost use Rattle.std.specs.Prelude.{◌≡◌, IsSome, IsSomeAnd, None};
-ghost use Rattle.tempolemon_c.specs.HandleCalls.{CallsLive, GroupHasFiles, IsTypedCall, ShowsFile};
+ghost use Rattle.tempolemon_c.specs.HandleCalls.{CallsLive, ChecksPin, GroupHasFiles, IsTypedCall, ShowsFile};
 ghost use Rattle.tempolemon_c.specs.Serving.{IsFit, OnLive, ServesRequest, frames_after_request};
 ghost use Rattle.tempolemon_c.specs.declared.requests.Request.TheVariants.{End, Lines, Start, StoreUnread, TakeUnread};
 
-use crate::calls::{Call, CallAnswer, FileText};
+use crate::calls::{Call, CallAnswer, FileText, PinCheck};
 use crate::live::Live;
 use crate::live_pointer::LivePointer;
 use crate::requests::{Request, RequestAnswer};
@@ -24,9 +24,9 @@ pub fn serve<N: BootName>(
     request: Request,
 ) -> (LivePointer<N>, RequestAnswer)
     requires fit { IsFit pointer.live request }
-    requires frames { frames_after_request pointer.frames request ≡ N.frames }
-    ensures named { result.0.frames ≡ N.frames }
-    ensures serves { ServesRequest N.frames pointer.live request result.0.live result.1 }
+    requires frames { frames_after_request pointer.frames request ≡ N.table }
+    ensures named { result.0.frames ≡ N.table }
+    ensures serves { ServesRequest N.table pointer.live request result.0.live result.1 }
 {
     match request {
         Request::Start { alloc, boot, sizes } => start(pointer, alloc, boot, sizes),
@@ -43,16 +43,16 @@ pub fn serve<N: BootName>(
 
 /// Serves a call of the CPU of this number, on the parts of a boot.
 #[inline(always)]
-pub fn serve_call<N: BootName>(
+pub fn call_pointer<N: BootName>(
     pointer: LivePointer<N>,
     cpu: u32,
     call: &Call<'_>,
 ) -> (LivePointer<N>, CallAnswer)
     requires some { IsSome pointer.live }
-    requires named { pointer.frames ≡ N.frames }
+    requires named { pointer.frames ≡ N.table }
     requires asked { IsTypedCall call.now }
-    ensures named { result.0.frames ≡ N.frames }
-    ensures serves { OnLive (λ from to. CallsLive N.frames cpu call.now from to result.1)
+    ensures named { result.0.frames ≡ N.table }
+    ensures serves { OnLive (λ from to. CallsLive N.table cpu call.now from to result.1)
         pointer.live result.0.live }
 {
     let mut live = pointer.into_box_parts().into_box();
@@ -67,13 +67,29 @@ pub fn show_file<N: BootName>(
     file: File,
 ) -> (LivePointer<N>, FileText)
     requires there { IsSomeAnd pointer.live (GroupHasFiles group file) }
-    requires named { pointer.frames ≡ N.frames }
-    ensures named { result.0.frames ≡ N.frames }
+    requires named { pointer.frames ≡ N.table }
+    ensures named { result.0.frames ≡ N.table }
     ensures shows { OnLive (λ from to. ShowsFile group file from to result.1) pointer.live result.0.live }
 {
     let live = pointer.into_box_parts().into_box();
     let shown = live.show(group, file);
     (LivePointer::of(BoxParts::of(live)), shown)
+}
+
+/// Whether the CPU of this number may have one more pin, of a block of this order, on the parts of a boot.
+pub fn check_pin<N: BootName>(
+    pointer: LivePointer<N>,
+    cpu: u32,
+    order: u32,
+) -> (LivePointer<N>, PinCheck)
+    requires some { IsSome pointer.live }
+    requires named { pointer.frames ≡ N.table }
+    ensures named { result.0.frames ≡ N.table }
+    ensures checks { OnLive (λ from to. ChecksPin cpu order result.1 from to) pointer.live result.0.live }
+{
+    let live = pointer.into_box_parts().into_box();
+    let check = live.check_pin(cpu, order);
+    (LivePointer::of(BoxParts::of(live)), check)
 }
 
 fn start<N: BootName>(
@@ -83,10 +99,10 @@ fn start<N: BootName>(
     sizes: Config,
 ) -> (LivePointer<N>, RequestAnswer)
     requires none { _pointer.live ≡ None }
-    requires frames { boot.frames ≡ N.frames }
+    requires frames { boot.table ≡ N.table }
     requires sizes { boot.sizes ≡ sizes }
-    ensures named { result.0.frames ≡ N.frames }
-    ensures serves { ServesRequest N.frames _pointer.live (Start alloc boot sizes) result.0.live result.1 }
+    ensures named { result.0.frames ≡ N.table }
+    ensures serves { ServesRequest N.table _pointer.live (Start alloc boot sizes) result.0.live result.1 }
 {
     let Ok(live) = Live::<N>::start(alloc, boot, sizes) else {
         return (LivePointer::none(alloc), RequestAnswer::NoMemory);
@@ -104,9 +120,9 @@ fn answer_lines<N: BootName>(
     is_explained: bool,
 ) -> (LivePointer<N>, RequestAnswer)
     requires some { IsSome pointer.live }
-    requires named { pointer.frames ≡ N.frames }
-    ensures named { result.0.frames ≡ N.frames }
-    ensures serves { ServesRequest N.frames pointer.live
+    requires named { pointer.frames ≡ N.table }
+    ensures named { result.0.frames ≡ N.table }
+    ensures serves { ServesRequest N.table pointer.live
         (Lines alloc text is_explained) result.0.live result.1 }
 {
     let mut live = pointer.into_box_parts().into_box();
@@ -124,9 +140,9 @@ fn store_unread<N: BootName>(
     text: Vec<u8>,
 ) -> (LivePointer<N>, RequestAnswer)
     requires some { IsSome pointer.live }
-    requires named { pointer.frames ≡ N.frames }
-    ensures named { result.0.frames ≡ N.frames }
-    ensures serves { ServesRequest N.frames pointer.live (StoreUnread text) result.0.live result.1 }
+    requires named { pointer.frames ≡ N.table }
+    ensures named { result.0.frames ≡ N.table }
+    ensures serves { ServesRequest N.table pointer.live (StoreUnread text) result.0.live result.1 }
 {
     let mut live = pointer.into_box_parts().into_box();
     live.store_unread(text);
@@ -138,9 +154,9 @@ fn take_unread<N: BootName>(
     alloc: Global,
 ) -> (LivePointer<N>, RequestAnswer)
     requires some { IsSome pointer.live }
-    requires named { pointer.frames ≡ N.frames }
-    ensures named { result.0.frames ≡ N.frames }
-    ensures serves { ServesRequest N.frames pointer.live (TakeUnread alloc) result.0.live result.1 }
+    requires named { pointer.frames ≡ N.table }
+    ensures named { result.0.frames ≡ N.table }
+    ensures serves { ServesRequest N.table pointer.live (TakeUnread alloc) result.0.live result.1 }
 {
     let mut live = pointer.into_box_parts().into_box();
     let text = live.take_unread(alloc);
@@ -152,9 +168,9 @@ fn take_unread<N: BootName>(
 
 fn finish<N: BootName>(pointer: LivePointer<N>, alloc: Global) -> (LivePointer<N>, RequestAnswer)
     requires some { IsSome pointer.live }
-    requires named { pointer.frames ≡ N.frames }
-    ensures named { result.0.frames ≡ N.frames }
-    ensures serves { ServesRequest N.frames pointer.live (End alloc) result.0.live result.1 }
+    requires named { pointer.frames ≡ N.table }
+    ensures named { result.0.frames ≡ N.table }
+    ensures serves { ServesRequest N.table pointer.live (End alloc) result.0.live result.1 }
 {
     let live = Box::into_inner(pointer.into_box_parts().into_box());
     let ended = live.finish();

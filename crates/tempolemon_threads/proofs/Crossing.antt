@@ -3,10 +3,10 @@ use Rattle.std.proofs.Common.{◌≡◌, ◌∙◌, Some, None, ap, refl, subst,
 use Rattle.std.proofs.lemmas.Bool.{false≢true}
 use Rattle.std.specs.Prelude.{ℕ, Bool, IsSome, IsSomeAnd, Option}
 use Rattle.std.specs.Global.{Global, Box}
+use Rattle.boot_words.specs.Tables.{KnownTable}
 use Rattle.host_memory.specs.Cells.{KnownLoan}
 use Rattle.mem_system.specs.{CpuInRun, HasEnded}
-use Rattle.mem_system.specs.declared.ending.SystemEnd.{SystemEnd}
-use Rattle.frame_word.specs.Seats.{KnownTable}
+use Rattle.mem_system.specs.declared.end_with_pins.SystemEnd.{SystemEnd}
 use Rattle.zone_threads.specs.Homes.{EndsParked, HasCpu, HasNoCpu, IfNotEntered, KnownBehind, KnownHome}
 use Rattle.zone_threads.specs.declared.home.NotEntered.{NotEntered}
 use Rattle.zone_threads.specs.declared.home.NotEntered.TheVariants as not_entered

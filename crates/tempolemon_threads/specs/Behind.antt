@@ -1,6 +1,6 @@
 -- What each kind of handle leads to.
 use Rattle.std.specs.Prelude.{Option}
-use Rattle.tempolemon_threads.specs.Zones.{Led, led_of}
+use Rattle.tempolemon_threads.specs.Handles.{Led, led_of}
 use Rattle.tempolemon_threads.specs.declared.handles.CpuPart.{CpuPart}
 use Rattle.tempolemon_threads.specs.declared.handles.Zone.{Zone}
 

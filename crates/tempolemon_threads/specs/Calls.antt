@@ -20,7 +20,7 @@ use Rattle.host_memory.specs.{ExceedsBuffer, FillsBuffer, PutsText, no_result, d
 use Rattle.host_memory.specs.declared.typed_result.TypedResult.{TypedResult}
 use Rattle.tempolemon_threads.specs.Kinds.{read_result, read_status, call_result_of, call_status_of}
 use Rattle.tempolemon_threads.specs.Statuses.{busy}
-use Rattle.tempolemon_threads.specs.Zones.{Led, OnPart}
+use Rattle.tempolemon_threads.specs.Handles.{Led, OnPart}
 
 -- the handle leads nowhere, and nothing was done
 pub record IsNotLive (before after : Option Led) (status : ℕ) (out : TypedResult) : Type 0 where

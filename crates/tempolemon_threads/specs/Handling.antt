@@ -1,7 +1,7 @@
 -- What is done with what a handle leads to.
 use Rattle.std.specs.Prelude.{◌≡◌, ℕ, Option, None, Some, IsSome}
-use Rattle.frame_word.specs.Seats.{KnownTable}
-use Rattle.mem_system.specs.Ending.{HasEnded}
+use Rattle.boot_words.specs.Tables.{KnownTable}
+use Rattle.mem_system.specs.EndsWithPins.{HasEnded}
 use Rattle.zone_threads.specs.Homes.{HasNoCpu, IsCpu, KnownHome}
 use Rattle.zone_threads.specs.declared.home.NotEntered.{NotEntered}
 use Rattle.zone_threads.specs.declared.home.NotEntered.TheVariants as not_entered
@@ -9,7 +9,7 @@ use Rattle.tempolemon_threads.specs.declared.requests.Forked.{Forked}
 use Rattle.tempolemon_threads.specs.declared.requests.Forked.TheVariants as forked
 use Rattle.tempolemon_threads.specs.declared.requests.RequestAnswer.{RequestAnswer}
 use Rattle.tempolemon_threads.specs.declared.requests.RequestAnswer.TheVariants as returned
-use Rattle.tempolemon_threads.specs.Zones.{Led, led}
+use Rattle.tempolemon_threads.specs.Handles.{Led, led}
 
 -- a second pointer leads to the same zone, without a CPU
 pub record ForksTo (zone : Option Led) (frames : KnownTable) (home : Option KnownHome)

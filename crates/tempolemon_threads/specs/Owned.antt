@@ -8,9 +8,9 @@ use Rattle.std.specs.Box.Ownership.{box_owns}
 use Rattle.std.specs.Coded.{coded_option}
 use Rattle.std.specs.Global.{Global}
 use Rattle.core.specs.contracts.marker.Brand as Brand
+use Rattle.boot_words.specs.Tables.{KnownTable}
 use Rattle.std_heap.specs.contracts.GlobalAllocator.TheImpl.{ghosts}
 use Rattle.boot_words.specs.contracts.raw.BootWords as BootWords
-use Rattle.frame_word.specs.Seats.{KnownTable}
 use Rattle.zone_threads.specs.Homes.{KnownHome}
 use Rattle.zone_threads.specs.contracts.home.Home as Home
 use Rattle.zone_threads.specs.declared.home.Home as Known
@@ -25,7 +25,7 @@ brand = Brand.the_row
 
 -- a home of this table, under a name
 abbrev pub home_row : RattleType → KnownTable → RattleType
-home_row name frames = Home.the_row name (record { frames = frames })
+home_row name frames = Home.the_row name (record { table = frames })
 
 -- how a home is stored, if there is one
 abbrev pub home_coded : Coded (Option KnownHome)

@@ -1,8 +1,8 @@
 -- What each request does to what a handle leads to.
 use Rattle.std.specs.Prelude.{◌≡◌, Option, None, Some, IsSomeAnd}
-use Rattle.frame_word.specs.Seats.{KnownTable}
 use Rattle.zone_blocks.specs.declared.config.Config.{Config}
-use Rattle.mem_system.specs.Ending.{HasEnded}
+use Rattle.boot_words.specs.Tables.{KnownTable}
+use Rattle.mem_system.specs.EndsWithPins.{HasEnded}
 use Rattle.zone_threads.specs.{HasCpu, HasNoCpu, IfNotEntered, KnownHome, TakesCpu, ReadsText}
 use Rattle.zone_threads.specs.declared.home.NotLeft.TheVariants as not_left
 use Rattle.tempolemon_threads.specs.declared.requests.Request.{Request}
@@ -14,7 +14,7 @@ use Rattle.tempolemon_threads.specs.declared.requests.Forked.TheVariants as fork
 
 -- the table after a request: a start brings its own, else it stays
 abbrev pub home_frames_after : KnownTable → Request → KnownTable
-home_frames_after frames (Start alloc boot) = boot.frames
+home_frames_after frames (Start alloc boot) = boot.table
 home_frames_after frames (Enter number) = frames
 home_frames_after frames (Leave alloc) = frames
 home_frames_after frames (Text alloc asked) = frames

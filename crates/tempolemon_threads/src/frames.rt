@@ -1,7 +1,8 @@
 //! The calls that allocate, release, pin and note frames. None of them takes memory.
 
 ghost use Rattle.mem_system.specs.declared.command.LockedCommand.TheVariants.{Clean, Dirty, Owner, Touch};
-ghost use Rattle.zone_threads.specs.declared.calls.Call.TheVariants.{AllocDirty, Get, Put, Release, Settle, Visit};
+ghost use Rattle.zone_threads.specs.declared.calls.Call.TheVariants.{AllocDirty, AllocPinned, Get, Put, Release, Settle};
+ghost use Rattle.zone_threads.specs.declared.calls.Call.TheVariants.{Visit};
 ghost use Rattle.tempolemon_threads.specs.Behind.{part_behind};
 ghost use Rattle.tempolemon_threads.specs.Calls.{AllocsPart, CallsPart};
 
@@ -44,6 +45,21 @@ pub extern "C" fn tempolemon_try_alloc_dirty(
     ensures { CallsPart (AllocDirty group order) (part_behind part.old) (part_behind part.new) result out.new }
 {
     serve_call(alloc, part, &Call::AllocDirty { group, order }, out)
+}
+
+/// Takes a block of 2^order frames, of order 1 to 10, charged to the group of this number, and pins it for the CPU,
+/// before another thread gets the lock, which the call tries. If the CPU can't have one more pin, that is said first.
+#[unsafe(no_mangle)]
+pub extern "C" fn tempolemon_try_alloc_pinned(
+    alloc: Global,
+    part: &mut CpuPart,
+    group: u32,
+    order: u32,
+    out: &mut TypedResult,
+) -> u8
+    ensures { CallsPart (AllocPinned group order) (part_behind part.old) (part_behind part.new) result out.new }
+{
+    serve_call(alloc, part, &Call::AllocPinned { group, order }, out)
 }
 
 /// Releases the unit that this frame heads: a fresh frame of the CPU to its list, if its stock wasn't drained. Else it tries

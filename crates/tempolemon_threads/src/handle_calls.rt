@@ -5,7 +5,7 @@ ghost use Rattle.mem_system.specs.Boots.{IsSizedAs};
 ghost use Rattle.zone_threads.specs.{Calls, AnswersRead, HasNoCpu, ReadsText};
 ghost use Rattle.tempolemon_threads.specs.Behind.{part_behind, zone_behind};
 ghost use Rattle.tempolemon_threads.specs.Handling.{EndsAs, EntersNone, ForksAs};
-ghost use Rattle.tempolemon_threads.specs.Zones.{BootsZone, OnPart, ReturnsPart, TakesPart, led_of};
+ghost use Rattle.tempolemon_threads.specs.Handles.{BootsZone, OnPart, ReturnsPart, TakesPart, led_of};
 
 use crate::handles::{CpuPart, Zone};
 use crate::raw::{RawHome, call_raw, fork_raw, read_raw, serve_raw};
@@ -27,7 +27,7 @@ impl Zone {
     /// Starts this boot. Returns false if memory ran out: nothing is left then.
     pub(crate) fn start(&mut self, alloc: Global, boot: Boot) -> bool
         requires none { zone_behind self.old ≡ None }
-        requires sized { IsSizedAs boot.sizes boot.frames }
+        requires sized { IsSizedAs boot.sizes boot.table }
         ensures { MatchBool result (BootsZone boot.sizes (zone_behind self.new)) (zone_behind self.new ≡ None) }
     {
         let raw = self.raw.take(alloc);

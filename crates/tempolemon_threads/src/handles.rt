@@ -1,6 +1,6 @@
 //! The two kinds of handle.
 
-ghost use Rattle.tempolemon_threads.specs.Zones.{IsCpuHandle, IsZoneHandle};
+ghost use Rattle.tempolemon_threads.specs.Handles.{IsCpuHandle, IsZoneHandle};
 
 use crate::raw::RawHome;
 

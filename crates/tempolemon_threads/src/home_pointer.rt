@@ -1,7 +1,7 @@
 //! A pointer to a home under a name, or to nothing.
 
 ghost use Rattle.std.specs.Prelude.{◌≡◌, IsSome, None, Option, Some};
-ghost use Rattle.frame_word.specs.Seats.{KnownTable};
+ghost use Rattle.boot_words.specs.Tables.{KnownTable};
 ghost use Rattle.zone_threads.specs.Homes.{KnownHome};
 ghost use Rattle.tempolemon_threads.specs.Owned.{frames_coded, home_owns, home_coded};
 
@@ -28,7 +28,7 @@ impl<B> Model for HomePointer<B> {
 impl<N: BootName> HomePointer<N> {
     /// A pointer to nothing.
     pub fn none(alloc: Global) -> HomePointer<N>
-        ensures { (result.frames ≡ N.frames) × (result.home ≡ None) }
+        ensures { (result.frames ≡ N.table) × (result.home ≡ None) }
     {
         HomePointer {
             ptr: std::ptr::null_mut(),
@@ -45,7 +45,7 @@ impl<N: BootName> HomePointer<N> {
 
     /// A pointer to what is in this box.
     pub fn of(parts: BoxParts<Home<N>, Global>) -> HomePointer<N>
-        ensures { (result.frames ≡ N.frames) × (result.home ≡ Some parts.value) }
+        ensures { (result.frames ≡ N.table) × (result.home ≡ Some parts.value) }
     {
         let BoxParts { ptr, alloc } = parts;
         HomePointer {
@@ -56,7 +56,7 @@ impl<N: BootName> HomePointer<N> {
 
     /// The box with what it points to.
     pub fn into_box_parts(self) -> BoxParts<Home<N>, Global>
-        requires { IsSome self.home × (self.frames ≡ N.frames) }
+        requires { IsSome self.home × (self.frames ≡ N.table) }
         ensures { Some result.value ≡ self.home }
     {
         let HomePointer { ptr, alloc } = self;

@@ -1,14 +1,14 @@
 //! A pointer to a home, or to nothing, without a name.
 
 ghost use Rattle.std.specs.Prelude.{◌≡◌, IsSome, IsSomeAnd, None, Option};
-ghost use Rattle.frame_word.specs.Seats.{KnownTable};
+ghost use Rattle.boot_words.specs.Tables.{KnownTable};
 ghost use Rattle.zone_threads.specs.{AnswersRead, Calls, HasCpu, KnownHome};
 ghost use Rattle.tempolemon_threads.specs.Owned.{brand, frames_coded, home_owns, home_coded};
 ghost use Rattle.tempolemon_threads.specs.Serving.{ForksRaw, IsFitForHome, OnRawHome, ServesRawHome};
 
 use crate::home_pointer::HomePointer;
 use crate::requests::{Forked, Request, RequestAnswer};
-use crate::serving::{fork, serve, serve_call, serve_read};
+use crate::serving::{call_pointer, fork, serve, serve_read};
 use std::alloc::Global;
 use std::marker::{Brand, Model};
 use std::mem::ManuallyDrop;
@@ -96,7 +96,7 @@ pub fn serve_raw(raw: RawHome, request: Request) -> (RawHome, RequestAnswer)
     (RawHome::of(pointer), answer)
 }
 
-/// Serves a call of the home's CPU, as `serve_call` does, under the name that it picks. Only a pointer to the call
+/// Serves a call of the home's CPU, as `call_pointer` does, under the name that it picks. Only a pointer to the call
 /// crosses, and no memory is taken. It is inlined, so that a caller that names the call has its steps alone.
 #[inline(always)]
 pub fn call_raw(raw: RawHome, call: &Call<'_>) -> (RawHome, CallAnswer)
@@ -104,7 +104,7 @@ pub fn call_raw(raw: RawHome, call: &Call<'_>) -> (RawHome, CallAnswer)
     ensures serves { OnRawHome (λ from to. Calls raw.frames call.now from to result.1)
         raw.frames raw.home result.0.frames result.0.home }
 {
-    let (pointer, answer) = serve_call::<Brand>(raw.into_pointer(), call);
+    let (pointer, answer) = call_pointer::<Brand>(raw.into_pointer(), call);
     (RawHome::of(pointer), answer)
 }
 

@@ -1,7 +1,7 @@
 //! What a host reads of the end of a zone.
 
 ghost use Rattle.std.specs.Prelude.{◌≡◌};
-ghost use Rattle.tempolemon_threads.specs.Zones.{zone_end_of};
+ghost use Rattle.tempolemon_threads.specs.Handles.{zone_end_of};
 
 use host_memory::report::Report;
 use mem_system::SystemEnd;

@@ -21,9 +21,9 @@ pub fn serve<N: BootName>(
     request: Request,
 ) -> (HomePointer<N>, RequestAnswer)
     requires fit { IsFitForHome pointer.home request }
-    requires frames { home_frames_after pointer.frames request ≡ N.frames }
-    ensures named { result.0.frames ≡ N.frames }
-    ensures serves { ServesHomeRequest N.frames pointer.home request result.0.home result.1 }
+    requires frames { home_frames_after pointer.frames request ≡ N.table }
+    ensures named { result.0.frames ≡ N.table }
+    ensures serves { ServesHomeRequest N.table pointer.home request result.0.home result.1 }
 {
     match request {
         Request::Start { alloc, boot } => start(pointer, alloc, boot),
@@ -36,14 +36,14 @@ pub fn serve<N: BootName>(
 
 /// Serves a call of the home's CPU.
 #[inline(always)]
-pub fn serve_call<N: BootName>(
+pub fn call_pointer<N: BootName>(
     pointer: HomePointer<N>,
     call: &Call<'_>,
 ) -> (HomePointer<N>, CallAnswer)
     requires cpu { IsSomeAnd pointer.home HasCpu }
-    requires named { pointer.frames ≡ N.frames }
-    ensures named { result.0.frames ≡ N.frames }
-    ensures serves { OnHome (λ from to. Calls N.frames call.now from to result.1)
+    requires named { pointer.frames ≡ N.table }
+    ensures named { result.0.frames ≡ N.table }
+    ensures serves { OnHome (λ from to. Calls N.table call.now from to result.1)
         pointer.home result.0.home }
 {
     let mut home = pointer.into_box_parts().into_box();
@@ -57,9 +57,9 @@ pub fn serve_read<N: BootName>(
     asked: &ReadCall<'_>,
 ) -> (HomePointer<N>, ReadAnswer)
     requires cpu { IsSomeAnd pointer.home HasCpu }
-    requires named { pointer.frames ≡ N.frames }
-    ensures named { result.0.frames ≡ N.frames }
-    ensures serves { OnHome (λ from to. AnswersRead N.frames asked.now from to result.1)
+    requires named { pointer.frames ≡ N.table }
+    ensures named { result.0.frames ≡ N.table }
+    ensures serves { OnHome (λ from to. AnswersRead N.table asked.now from to result.1)
         pointer.home result.0.home }
 {
     let mut home = pointer.into_box_parts().into_box();
@@ -73,9 +73,9 @@ pub fn fork<N: BootName>(
     alloc: Global,
 ) -> (HomePointer<N>, HomePointer<N>, Forked)
     requires some { IsSome pointer.home }
-    requires named { pointer.frames ≡ N.frames }
-    ensures named { result.0.frames ≡ N.frames }
-    ensures second { result.1.frames ≡ N.frames }
+    requires named { pointer.frames ≡ N.table }
+    ensures named { result.0.frames ≡ N.table }
+    ensures second { result.1.frames ≡ N.table }
     ensures forks { Forks pointer.home result.0.home result.1.home result.2 }
 {
     let home = pointer.into_box_parts().into_box();
@@ -96,9 +96,9 @@ fn start<N: BootName>(
     boot: Boot,
 ) -> (HomePointer<N>, RequestAnswer)
     requires none { pointer.home ≡ None }
-    requires frames { boot.frames ≡ N.frames }
-    ensures named { result.0.frames ≡ N.frames }
-    ensures serves { ServesHomeRequest N.frames pointer.home (Start alloc boot) result.0.home result.1 }
+    requires frames { boot.table ≡ N.table }
+    ensures named { result.0.frames ≡ N.table }
+    ensures serves { ServesHomeRequest N.table pointer.home (Start alloc boot) result.0.home result.1 }
 {
     pointer.forget();
     let Ok(home) = Home::<N>::start(alloc, boot) else {
@@ -112,9 +112,9 @@ fn start<N: BootName>(
 
 fn enter<N: BootName>(pointer: HomePointer<N>, number: u32) -> (HomePointer<N>, RequestAnswer)
     requires some { IsSome pointer.home }
-    requires named { pointer.frames ≡ N.frames }
-    ensures named { result.0.frames ≡ N.frames }
-    ensures serves { ServesHomeRequest N.frames pointer.home (Enter number) result.0.home result.1 }
+    requires named { pointer.frames ≡ N.table }
+    ensures named { result.0.frames ≡ N.table }
+    ensures serves { ServesHomeRequest N.table pointer.home (Enter number) result.0.home result.1 }
 {
     let mut home = pointer.into_box_parts().into_box();
     match home.enter(number) {
@@ -128,9 +128,9 @@ fn enter<N: BootName>(pointer: HomePointer<N>, number: u32) -> (HomePointer<N>, 
 
 fn leave<N: BootName>(pointer: HomePointer<N>, alloc: Global) -> (HomePointer<N>, RequestAnswer)
     requires some { IsSome pointer.home }
-    requires named { pointer.frames ≡ N.frames }
-    ensures named { result.0.frames ≡ N.frames }
-    ensures serves { ServesHomeRequest N.frames pointer.home (Leave alloc) result.0.home result.1 }
+    requires named { pointer.frames ≡ N.table }
+    ensures named { result.0.frames ≡ N.table }
+    ensures serves { ServesHomeRequest N.table pointer.home (Leave alloc) result.0.home result.1 }
 {
     let mut home = pointer.into_box_parts().into_box();
     let left = home.leave();
@@ -153,9 +153,9 @@ fn text<N: BootName>(
     asked: TextCall,
 ) -> (HomePointer<N>, RequestAnswer)
     requires cpu { IsSomeAnd pointer.home HasCpu }
-    requires named { pointer.frames ≡ N.frames }
-    ensures named { result.0.frames ≡ N.frames }
-    ensures serves { ServesHomeRequest N.frames pointer.home (Text alloc asked) result.0.home result.1 }
+    requires named { pointer.frames ≡ N.table }
+    ensures named { result.0.frames ≡ N.table }
+    ensures serves { ServesHomeRequest N.table pointer.home (Text alloc asked) result.0.home result.1 }
 {
     let mut home = pointer.into_box_parts().into_box();
     let text = home.text(alloc, asked);
@@ -169,9 +169,9 @@ fn text<N: BootName>(
 #[tactic(auto, using(crate::proofs::Crossing::has_ended))]
 fn end<N: BootName>(pointer: HomePointer<N>, alloc: Global) -> (HomePointer<N>, RequestAnswer)
     requires some { IsSomeAnd pointer.home HasNoCpu }
-    requires named { pointer.frames ≡ N.frames }
-    ensures named { result.0.frames ≡ N.frames }
-    ensures serves { ServesHomeRequest N.frames pointer.home (End alloc) result.0.home result.1 }
+    requires named { pointer.frames ≡ N.table }
+    ensures named { result.0.frames ≡ N.table }
+    ensures serves { ServesHomeRequest N.table pointer.home (End alloc) result.0.home result.1 }
 {
     let home = Box::into_inner(pointer.into_box_parts().into_box());
     match home.into_zone() {

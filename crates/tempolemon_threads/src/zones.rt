@@ -6,7 +6,7 @@ ghost use Rattle.host_memory.specs.{config_of, bad_config, bad_cpu, done, is_liv
 ghost use Rattle.tempolemon_threads.specs.Behind.{part_behind, zone_behind};
 ghost use Rattle.tempolemon_threads.specs.Statuses.{IsZoneBootStatus, IsZoneEndStatus, IsReturnStatus, IsTakeStatus};
 ghost use Rattle.tempolemon_threads.specs.Statuses.{busy, cpu_out, cpus_out};
-ghost use Rattle.tempolemon_threads.specs.Zones.{BootsZone, EndsWith, HasNoSuchCpu, HasSuchCpu, ReturnsPart, TakesPart};
+ghost use Rattle.tempolemon_threads.specs.Handles.{BootsZone, EndsWith, HasNoSuchCpu, HasSuchCpu, ReturnsPart, TakesPart};
 
 use crate::handles::{CpuPart, Zone};
 use crate::report::report_of;

@@ -54,8 +54,8 @@ fn run_and_replay<N: BootName + Send + Sync, R: Threads + Wait + Sync, G: Gate +
     gate: &G,
 ) -> Result<(Vec<u8>, Vec<u8>), AllocError>
     requires count { length cpus.old < 2 ^ 31 }
-    requires lines { All (LineInRange N.frames.frames (length cpus.old)) lines.now }
-    requires last { All (LineInRange N.frames.frames (length cpus.old)) last.now }
+    requires lines { All (LineInRange N.table.frames (length cpus.old)) lines.now }
+    requires last { All (LineInRange N.table.frames (length cpus.old)) last.now }
 {
     let by_threads = run_lines(rt, alloc, system, cpus, lines, gate)?;
     let after_threads = replay_by_visits(rt, alloc, system, cpus, last)?;
@@ -72,8 +72,8 @@ fn live_by_threads<N: BootName + Send + Sync, R: Threads + Wait + Sync, G: Gate 
     last: &[Line<'_>],
     gate: &G,
 ) -> Result<ThreadAnswers, AllocError>
-    requires names { boot.frames ≡ N.frames }
-    requires sized { IsSizedAs boot.sizes boot.frames }
+    requires names { boot.table ≡ N.table }
+    requires sized { IsSizedAs boot.sizes boot.table }
     requires count { boot.sizes.cpus < 2 ^ 31 }
     requires lines { All (LineInRange boot.sizes.frames boot.sizes.cpus) lines.now }
     requires last { All (LineInRange boot.sizes.frames boot.sizes.cpus) last.now }

@@ -1,2 +1,3 @@
 mod UnitsShown
 mod Reading
+mod Pinning

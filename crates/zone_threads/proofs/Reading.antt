@@ -1,7 +1,7 @@
 -- A read under the lock is what the home's read answers. Serves `Home::read`.
 use Rattle.std.proofs.Common.{◌≡◌, Some, subst}
 use Rattle.zone_blocks.specs.declared.config.Config.{Config}
-use Rattle.frame_word.specs.Seats.{KnownTable}
+use Rattle.boot_words.specs.Tables.{KnownTable}
 use Rattle.mem_system.specs.Cpus.{CpuInRun}
 use Rattle.zone_threads.specs.declared.calls.ReadCall.{ReadCall}
 use Rattle.zone_threads.specs.declared.calls.ReadAnswer.{ReadAnswer}

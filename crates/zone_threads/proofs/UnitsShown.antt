@@ -1,7 +1,7 @@
 -- The units that are shown are those of a group that is there. Serves `units`.
 use Rattle.std.proofs.Common.{◌≡◌, ℕ, Bool, true, false, List, Ok, Some, None, refl, sym, subst}
 use Rattle.std.specs.Prelude.{Option, Result}
-use Rattle.frame_word.specs.Seats.{KnownTable}
+use Rattle.boot_words.specs.Tables.{KnownTable}
 use Rattle.mem_machine.specs.Machines.{KnownMachine}
 use Rattle.mem_system.specs.Shown.{UnitsAt}
 

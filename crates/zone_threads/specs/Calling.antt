@@ -1,19 +1,19 @@
 -- What each call does to the CPU of a thread, by its answer, and by which steps of the run.
-use Rattle.std.specs.Prelude.{◌≡◌, ◌+◌, ◌<◌, ◌≤◌, ◌⊎◌, ℕ, true, false, List, length, None, Ok, Option, Some}
+use Rattle.std.specs.Prelude.{◌≡◌, ◌≢◌, ◌+◌, ◌<◌, ◌≤◌, ◌⊎◌, ℕ, true, false, List, length, None, Ok, Option, Some}
 use Rattle.std.specs.Borrow.{Bor}
-use Rattle.frame_word.specs.Seats.{KnownTable}
 use Rattle.frame_word.specs.declared.answers.Get.{Get}
+use Rattle.frame_word.specs.declared.answers.Get.TheVariants.{Held}
 use Rattle.frame_word.specs.declared.answers.Put.{Put}
 use Rattle.zone_blocks.specs.declared.config.Config.{Config}
 use Rattle.group_tree.specs.{most_groups, has_group, limit_of, path_of}
 use Rattle.group_tree.specs.declared.group.Group.{Group}
-use Rattle.group_tree.specs.declared.fault.Fault.TheVariants.{NotPinned, PinsFull}
+use Rattle.group_tree.specs.declared.fault.Fault.TheVariants.{BadOrder, NotPinned, PinsFull}
 use Rattle.group_charge.specs.Charges.{Ledger, current_of, peak_of, settings_of}
 use Rattle.control_files.specs.declared.file.File.{File}
 use Rattle.control_files.specs.Files.{limit_text, name_of_file}
-use Rattle.boot_words.specs.{GrewByAll, own_past}
-use Rattle.step_rules.specs.State.{times}
-use Rattle.cpu_part.specs.{DropAnswers, FastAnswers, PinAnswers, UnpinAnswers, most_pins, steps_of_drop, steps_of_fast, steps_of_get, steps_of_put}
+use Rattle.boot_words.specs.{GrewByAll, own_past, KnownTable}
+use Rattle.step_rules.specs.State.{times, most_pins}
+use Rattle.cpu_part.specs.{DropAnswers, FastAnswers, PinAnswers, UnpinAnswers, steps_of_drop, steps_of_fast, steps_of_get, steps_of_put}
 use Rattle.cpu_part.specs.declared.answers.Dropped.{Dropped}
 use Rattle.cpu_part.specs.declared.answers.Dropped.TheVariants.{Listed, NeedVisit}
 use Rattle.cpu_part.specs.declared.answers.Fast.{Fast}
@@ -23,6 +23,7 @@ use Rattle.mem_system.specs.{ServesFrameOutcome, ServesOutcome}
 use Rattle.mem_system.specs.declared.command.LockedCommand.TheVariants as cmd
 use Rattle.mem_system.specs.declared.command.ReplyWithText.TheVariants as reply
 use Rattle.mem_system.specs.declared.outcome.Outcome.{Outcome}
+use Rattle.mem_system.specs.declared.outcome.Outcome.TheVariants.{Frame}
 use Rattle.zone_threads.specs.Homes.{KnownHome, OnCpu}
 use Rattle.zone_threads.specs.declared.calls.Call.{Call}
 use Rattle.zone_threads.specs.declared.calls.Call.TheVariants as call
@@ -49,6 +50,18 @@ pub record ServesDirtyUnit (frames : KnownTable) (group order : ℕ) (outcome : 
   pub path : Bor (List ℕ)
   pub path_is : path_of before.locked.machine.ledger.groups group ≡ Some path.now
   pub serves : ServesDirtyAlloc frames path order outcome before after
+
+-- the CPU may have one more pin
+abbrev pub HasPinRoom : CpuInRun → Type 0
+HasPinRoom cpu = length cpu.part.back + length cpu.part.pins < most_pins
+
+-- the order is that of a block: 1 to 10
+abbrev pub IsBlockOrder : ℕ → Type 0
+IsBlockOrder order = (1 ≤ order) × (order ≤ 10)
+
+-- a block of this order may be allocated and pinned for the CPU
+abbrev pub MayPinBlock : (order : ℕ) → CpuInRun → Type 0
+MayPinBlock order cpu = HasPinRoom cpu × IsBlockOrder order
 
 -- a limit was written to a file of the group of this number, by its path and as a read of the file shows it
 pub record ServesPages (frames : KnownTable) (group : ℕ) (file : File) (pages : Option ℕ) (outcome : Outcome)
@@ -81,6 +94,36 @@ pub record Pins (frame : ℕ) (got : Get) (from to : CpuInRun) : Type 0 where
   pub answers : PinAnswers frame got from.part to.part
   pub last : to.last ≡ from.last
   pub run : GrewByAll (own_past from.past) (steps_of_get from.part.number frame (Ok got)) (own_past to.past)
+
+-- the CPU asked for a pin of the frame, and has none more
+pub record MissesPin (frame : ℕ) (from to : CpuInRun) : Type 0 where
+  pub got : Get
+  pub not_held : got ≢ Held
+  pub asks : Pins frame got from to
+
+-- A block that begins at this frame was allocated for the group of this number, by its path. Right after it, under the
+-- same lock, `Asks` leads from the CPU as the allocation left it to the CPU as it is now.
+pub record AllocatesThen (frames : KnownTable) (group order frame : ℕ) (Asks : (from to : CpuInRun) → Type 0)
+    (before after : LockedState) : Type 0 where
+  pub between : LockedState
+  pub allocates : ServesBlock frames group order (Frame frame) before between
+  pub lock_kept : after.locked ≡ between.locked
+  pub asks : Asks between.cpu after.cpu
+
+-- an allocation of a pinned block, by its outcome: the CPU has a pin more, of the block; or no block was allocated, for
+-- this cause
+abbrev pub ServesPinned : KnownTable → (group order : ℕ) → Outcome → (before after : LockedState) → Type 0
+ServesPinned frames group order (Frame frame) before after =
+    AllocatesThen frames group order frame (Pins frame Held) before after
+ServesPinned frames group order refusal before after = ServesBlock frames group order refusal before after
+
+-- a block was allocated, no pin of it was had, and it was released again
+pub record GivesUpBlock (frames : KnownTable) (group order : ℕ) (before after : LockedState) : Type 0 where
+  pub frame : ℕ
+  pub missed : LockedState
+  pub outcome : Outcome
+  pub allocates : AllocatesThen frames group order frame (MissesPin frame) before missed
+  pub releases : ServesOutcome frames (cmd.Release frame) outcome missed after
 
 -- the CPU put a pin of the frame with this answer, and its past grew by this step
 pub record Unpins (frame : ℕ) (put : Put) (from to : CpuInRun) : Type 0 where
@@ -120,6 +163,27 @@ IsMissingIn groups number = (most_groups ≤ number) ⊎ (has_group groups numbe
 abbrev pub NoGroupBehindLock : KnownTable → ℕ → (from to : CpuInRun) → Type 0
 NoGroupBehindLock frames group from to =
     SeenBehindLock frames (λ found. IsMissingIn found.machine.ledger.groups group) from to
+
+-- what an allocation of a pinned block does under the lock, by its answer
+abbrev pub AllocatesPinned : KnownTable → (sizes : Config) → (group order : ℕ) → CallAnswer → (from to : CpuInRun)
+    → Type 0
+AllocatesPinned frames sizes group order answer.NoGroup from to = NoGroupBehindLock frames group from to
+AllocatesPinned frames sizes group order (answer.Served outcome) from to =
+    IsVisited frames sizes (ServesPinned frames group order outcome) from to
+AllocatesPinned frames sizes group order (answer.Refused NotPinned) from to =
+    IsVisited frames sizes (GivesUpBlock frames group order) from to
+AllocatesPinned frames sizes group order returned from to = ⊥
+
+-- What such a call does to the CPU, by its answer. Whether the CPU may have one more pin is looked at first, then the
+-- order, and then the lock is tried.
+abbrev pub CallsAllocPinned : KnownTable → (sizes : Config) → (group order : ℕ) → CallAnswer → (from to : CpuInRun)
+    → Type 0
+CallsAllocPinned frames sizes group order (answer.Refused PinsFull) from to = (¬ HasPinRoom from) × (to ≡ from)
+CallsAllocPinned frames sizes group order (answer.Refused BadOrder) from to =
+    HasPinRoom from × (¬ IsBlockOrder order) × (to ≡ from)
+CallsAllocPinned frames sizes group order answer.Busy from to = MayPinBlock order from × (to ≡ from)
+CallsAllocPinned frames sizes group order returned from to =
+    MayPinBlock order from × AllocatesPinned frames sizes group order returned from to
 
 -- a number of pages that a group has; None for no limit
 abbrev pub group_pages : GroupPages → Ledger → ℕ → Option ℕ
@@ -194,6 +258,8 @@ Calls frames (call.AllocDirty group order) from to answer.NoGroup =
     OnCpu (NoGroupBehindLock frames group) from to
 Calls frames (call.AllocDirty group order) from to (answer.Served outcome) =
     OnCpu (IsVisited frames from.sizes (ServesDirtyUnit frames group order outcome)) from to
+Calls frames (call.AllocPinned group order) from to returned =
+    OnCpu (CallsAllocPinned frames from.sizes group order returned) from to
 Calls frames (call.ReadPages group which) from to answer.Busy = to ≡ from
 Calls frames (call.ReadPages group which) from to said = OnCpu (ReadsPages frames group which said) from to
 Calls frames (call.WritePages group file pages) from to answer.Busy = to ≡ from

@@ -2,11 +2,11 @@
 use Rattle.std.specs.Prelude.{◌≡◌, ◌≢◌, ◌≤◌, ◌<◌, ℕ, All, List, length, [], ◌∷◌, ◌++◌, Option, Some, None, IsSome}
 use Rattle.std.specs.Global.{Box}
 use Rattle.std.specs.List.{HoldsAt, swap_remove}
+use Rattle.boot_words.specs.Tables.{KnownTable}
 use Rattle.host_memory.specs.Cells.{KnownChange, KnownLoan}
-use Rattle.frame_word.specs.Seats.{KnownTable}
 use Rattle.zone_blocks.specs.declared.config.Config.{Config}
 use Rattle.mem_system.specs.{CpuInRun, PutsAndEnds, KnownLocked}
-use Rattle.mem_system.specs.declared.ending.SystemEnd.{SystemEnd}
+use Rattle.mem_system.specs.declared.end_with_pins.SystemEnd.{SystemEnd}
 use Rattle.zone_threads.specs.declared.home.NotEntered.{NotEntered}
 use Rattle.zone_threads.specs.declared.home.NotEntered.TheVariants as not_entered
 use Rattle.zone_threads.specs.declared.home.NotLeft.{NotLeft}

@@ -1,7 +1,7 @@
 -- The texts that a settled CPU gets of the zone.
 use Rattle.std.specs.Prelude.{◌≡◌, ℕ, List, None}
-use Rattle.frame_word.specs.Seats.{KnownTable}
 use Rattle.group_tree.specs.Groups.{number_at}
+use Rattle.boot_words.specs.Tables.{KnownTable}
 use Rattle.machine_texts.specs.{blocks_text, show_text, stock_line_text}
 use Rattle.mem_machine.specs.Machines.{KnownMachine}
 use Rattle.mem_system.specs.{ReadsAfterSettling, UnitsAt, LockedState}

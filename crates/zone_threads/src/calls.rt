@@ -32,6 +32,12 @@ pub enum Call<'a> {
         group: u32,
         order: u32,
     },
+    /// Takes a block of 2^order frames, of order 1 to 10, charged to the group of this number, and pins it, under the
+    /// lock: no other CPU is served in between.
+    AllocPinned {
+        group: u32,
+        order: u32,
+    },
     /// Reads a number of pages of the group of this number, under the lock. The CPU isn't settled.
     ReadPages {
         group: u32,
@@ -97,7 +103,7 @@ pub enum CallAnswer {
     Put(Put),
     /// The CPU was settled.
     Settled,
-    /// It is refused for this reason, and nothing was done.
+    /// It is refused for this reason, and nothing was done; except that a block that wasn't pinned was released again.
     Refused(Fault),
 }
 
@@ -124,13 +130,14 @@ impl<N: BootName> Home<N> {
     #[inline(always)]
     pub fn call(&mut self, call: &Call<'_>) -> CallAnswer
         requires some { IsSome self.old.cpu }
-        ensures { Calls N.frames call.now self.old self.new result }
+        ensures { Calls N.table call.now self.old self.new result }
     {
         match *call {
             Call::Visit(cmd) => self.visit(&cmd),
             Call::AllocFrame { group } => self.alloc_frame(group),
             Call::AllocBlock { group, order } => self.alloc_block(group, order),
             Call::AllocDirty { group, order } => self.alloc_dirty(group, order),
+            Call::AllocPinned { group, order } => self.alloc_pinned(group, order),
             Call::ReadPages { group, which } => self.read_pages(group, which),
             Call::WritePages { group, file, pages } => self.write_pages(group, file, pages),
             Call::Release { frame } => self.release(frame),

@@ -19,7 +19,7 @@ impl<N: BootName> Home<N> {
     #[inline(always)]
     pub fn alloc_frame(&mut self, group: u32) -> CallAnswer
         requires some { IsSome self.old.cpu }
-        ensures { Calls N.frames (call.AllocFrame group) self.old self.new result }
+        ensures { Calls N.table (call.AllocFrame group) self.old self.new result }
     {
         if group >= 64 {
             return CallAnswer::NoGroup;
@@ -42,7 +42,7 @@ impl<N: BootName> Home<N> {
     #[inline(always)]
     pub fn release(&mut self, number: u32) -> CallAnswer
         requires some { IsSome self.old.cpu }
-        ensures { Calls N.frames (call.Release number) self.old self.new result }
+        ensures { Calls N.table (call.Release number) self.old self.new result }
     {
         let zone = &*self.zone;
         let Some(cpu) = &mut self.cpu else {
@@ -64,7 +64,7 @@ impl<N: BootName> Home<N> {
     #[inline(always)]
     pub fn get(&mut self, number: u32) -> CallAnswer
         requires some { IsSome self.old.cpu }
-        ensures { Calls N.frames (call.Get number) self.old self.new result }
+        ensures { Calls N.table (call.Get number) self.old self.new result }
     {
         let Some(cpu) = &mut self.cpu else {
             unreachable!()
@@ -76,7 +76,7 @@ impl<N: BootName> Home<N> {
     #[inline(always)]
     pub fn put(&mut self, number: u32) -> CallAnswer
         requires some { IsSome self.old.cpu }
-        ensures { Calls N.frames (call.Put number) self.old self.new result }
+        ensures { Calls N.table (call.Put number) self.old self.new result }
     {
         let Some(cpu) = &mut self.cpu else {
             unreachable!()
@@ -120,7 +120,7 @@ fn relist<N: BootName>(tables: &Tables<N>, cpu: &mut Cpu<N>, frame: Frame) -> bo
 // Pins a frame.
 #[inline(always)]
 fn get<N: BootName>(tables: &Tables<N>, cpu: &mut Cpu<N>, number: u32) -> CallAnswer
-    ensures { CallsGet N.frames number result cpu.old cpu.new }
+    ensures { CallsGet N.table number result cpu.old cpu.new }
 {
     let Some(frame) = tables.words.frame(number) else {
         return CallAnswer::NoFrame;
@@ -134,7 +134,7 @@ fn get<N: BootName>(tables: &Tables<N>, cpu: &mut Cpu<N>, number: u32) -> CallAn
 // Puts a pin of the CPU.
 #[inline(always)]
 fn put<N: BootName>(tables: &Tables<N>, cpu: &mut Cpu<N>, number: u32) -> CallAnswer
-    ensures { CallsPut N.frames number result cpu.old cpu.new }
+    ensures { CallsPut N.table number result cpu.old cpu.new }
 {
     let Some(frame) = tables.words.frame(number) else {
         return CallAnswer::NoFrame;

@@ -58,7 +58,7 @@ impl<N: BootName> Home<N> {
     /// Starts a boot, and is the first home of its zone, without a CPU. `AllocError` means that memory ran out: nothing
     /// is left then.
     pub fn start(alloc: Global, boot: Boot) -> Result<Home<N>, AllocError>
-        requires frames { boot.frames ≡ N.frames }
+        requires frames { boot.table ≡ N.table }
         ensures no_cpu { IfOk result HasNoCpu }
         ensures sizes { IfOk result (λ home. home.sizes ≡ boot.sizes) }
     {

@@ -1,9 +1,11 @@
 //! What is served with what lies behind the lock.
 
-ghost use Rattle.std.specs.Prelude.{◌≡◌, IfNone, IfSome, IsTrue};
+ghost use Rattle.std.specs.Prelude.{◌≡◌, ◌<◌, IfNone, IfSome, IsTrue, MatchBool};
+ghost use Rattle.frame_word.specs.declared.answers.Get.TheVariants.{Held};
 ghost use Rattle.group_tree.specs.Groups.{has_group};
 ghost use Rattle.mem_system.specs.{IsOfZone, SettlesCaller, IsVisited, ServesFrameOutcome, ServesOutcome};
 ghost use Rattle.zone_threads.specs.Calling.{NoGroupBehindLock, IsMissingIn, IsReadUnderLock, ServesBlock};
+ghost use Rattle.zone_threads.specs.Calling.{AllocatesPinned, HasPinRoom, MayPinBlock, MissesPin, Pins};
 ghost use Rattle.zone_threads.specs.Calling.{ReadsPages, SaysPages, ServesDirtyUnit, ServesPages};
 
 use crate::behind::Behind;
@@ -12,7 +14,9 @@ use control_files::file::{File, file_text};
 use control_files::limit::{Limit, write_limit};
 use control_files::stat::stat_text;
 use cpu_part::{BootName, Tables};
+use frame_word::Get;
 use group_charge::charges::Charges;
+use group_tree::fault::Fault;
 use group_tree::group::GroupId;
 use mem_system::{
     Cpu, LockedCommand, Outcome, serve_dirty_alloc, serve_frame_outcome, serve_outcome,
@@ -37,8 +41,8 @@ impl<N: BootName> Behind<N> {
         cpu: &mut Cpu<N>,
         cmd: &LockedCommand<'_>,
     ) -> Outcome
-        requires { IsOfZone N.frames cmd.now }
-        ensures { IsVisited N.frames self.old.locked.sizes (ServesOutcome N.frames cmd.now result)
+        requires { IsOfZone N.table cmd.now }
+        ensures { IsVisited N.table self.old.locked.sizes (ServesOutcome N.table cmd.now result)
             cpu.old cpu.new }
     {
         self.locked.prove_quiet();
@@ -56,9 +60,9 @@ impl<N: BootName> Behind<N> {
         group: u32,
     ) -> Option<Outcome>
         ensures served { IfSome result (λ outcome.
-            IsVisited N.frames self.old.locked.sizes (ServesFrameOutcome N.frames group outcome)
+            IsVisited N.table self.old.locked.sizes (ServesFrameOutcome N.table group outcome)
             cpu.old cpu.new) }
-        ensures none { IfNone result (NoGroupBehindLock N.frames group cpu.old cpu.new) }
+        ensures none { IfNone result (NoGroupBehindLock N.table group cpu.old cpu.new) }
     {
         self.locked.prove_quiet();
         let Some(group) = find_group(self.locked.charges(), group) else {
@@ -80,9 +84,9 @@ impl<N: BootName> Behind<N> {
         order: u32,
     ) -> Option<Outcome>
         ensures served { IfSome result (λ outcome.
-            IsVisited N.frames self.old.locked.sizes (ServesBlock N.frames group order outcome)
+            IsVisited N.table self.old.locked.sizes (ServesBlock N.table group order outcome)
             cpu.old cpu.new) }
-        ensures none { IfNone result (NoGroupBehindLock N.frames group cpu.old cpu.new) }
+        ensures none { IfNone result (NoGroupBehindLock N.table group cpu.old cpu.new) }
     {
         self.locked.prove_quiet();
         let Some(group) = find_group(self.locked.charges(), group) else {
@@ -111,9 +115,9 @@ impl<N: BootName> Behind<N> {
         order: u32,
     ) -> Option<Outcome>
         ensures served { IfSome result (λ outcome.
-            IsVisited N.frames self.old.locked.sizes (ServesDirtyUnit N.frames group order outcome)
+            IsVisited N.table self.old.locked.sizes (ServesDirtyUnit N.table group order outcome)
             cpu.old cpu.new) }
-        ensures none { IfNone result (NoGroupBehindLock N.frames group cpu.old cpu.new) }
+        ensures none { IfNone result (NoGroupBehindLock N.table group cpu.old cpu.new) }
     {
         self.locked.prove_quiet();
         let Some(group) = find_group(self.locked.charges(), group) else {
@@ -127,6 +131,41 @@ impl<N: BootName> Behind<N> {
         Some(outcome)
     }
 
+    /// Allocates a block for the group of this number, and pins it. If the get fails, which only another CPU's get can
+    /// cause, the block is released again.
+    pub fn alloc_pinned(
+        &mut self,
+        tables: &Tables<N>,
+        cpu: &mut Cpu<N>,
+        group: u32,
+        order: u32,
+    ) -> CallAnswer
+        requires { MayPinBlock order cpu.old }
+        ensures { AllocatesPinned N.table self.old.locked.sizes group order result cpu.old cpu.new }
+    {
+        self.locked.prove_quiet();
+        let Some(group) = find_group(self.locked.charges(), group) else {
+            self.locked.meet(tables, cpu);
+            self.locked.prove_quiet();
+            return CallAnswer::NoGroup;
+        };
+        let path = *self.locked.charges().tree().path_of(group);
+        let path = path.as_bytes();
+        let alloc = LockedCommand::Alloc { path, order };
+        let outcome = serve_outcome(&mut self.locked, tables, cpu, &alloc);
+        self.locked.prove_quiet();
+        let Outcome::Frame(frame) = outcome else {
+            return CallAnswer::Served(outcome);
+        };
+        if pin(tables, cpu, frame) {
+            return CallAnswer::Served(outcome);
+        }
+        let release = LockedCommand::Release { frame };
+        let _released = serve_outcome(&mut self.locked, tables, cpu, &release);
+        self.locked.prove_quiet();
+        CallAnswer::Refused(Fault::NotPinned)
+    }
+
     /// Reads a number of pages of the group of this number. The CPU isn't settled.
     pub fn read_pages(
         &mut self,
@@ -136,7 +175,7 @@ impl<N: BootName> Behind<N> {
         which: GroupPages,
     ) -> CallAnswer
         ensures says { SaysPages self.old.locked.machine.ledger group which result }
-        ensures reads { ReadsPages N.frames group which result cpu.old cpu.new }
+        ensures reads { ReadsPages N.table group which result cpu.old cpu.new }
     {
         self.locked.prove_quiet();
         let answer = pages_read(self.locked.charges(), group, which);
@@ -155,9 +194,9 @@ impl<N: BootName> Behind<N> {
         pages: Limit,
     ) -> Option<Outcome>
         ensures served { IfSome result (λ outcome.
-            IsVisited N.frames self.old.locked.sizes (ServesPages N.frames group file pages outcome)
+            IsVisited N.table self.old.locked.sizes (ServesPages N.table group file pages outcome)
             cpu.old cpu.new) }
-        ensures none { IfNone result (NoGroupBehindLock N.frames group cpu.old cpu.new) }
+        ensures none { IfNone result (NoGroupBehindLock N.table group cpu.old cpu.new) }
     {
         self.locked.prove_quiet();
         let Some(group) = find_group(self.locked.charges(), group) else {
@@ -179,7 +218,7 @@ impl<N: BootName> Behind<N> {
     /// Settles a CPU.
     #[inline(always)]
     pub fn settle(&mut self, tables: &Tables<N>, cpu: &mut Cpu<N>)
-        ensures { IsVisited N.frames self.old.locked.sizes (SettlesCaller N.frames) cpu.old cpu.new }
+        ensures { IsVisited N.table self.old.locked.sizes (SettlesCaller N.table) cpu.old cpu.new }
     {
         self.locked.prove_quiet();
         serve_settle(&mut self.locked, tables, cpu);
@@ -188,7 +227,7 @@ impl<N: BootName> Behind<N> {
 
     /// Reads a file of a group, with its text.
     pub fn read(&mut self, tables: &Tables<N>, cpu: &mut Cpu<N>, asked: &ReadCall<'_>) -> ReadAnswer
-        ensures { IsReadUnderLock N.frames self.old.locked.sizes asked.now cpu.old cpu.new result }
+        ensures { IsReadUnderLock N.table self.old.locked.sizes asked.now cpu.old cpu.new result }
     {
         let ReadCall { path, file } = *asked;
         self.locked.prove_quiet();
@@ -213,6 +252,21 @@ impl<N: BootName> Behind<N> {
             Err(fault) => ReadAnswer::Refused(fault),
         }
     }
+}
+
+// Pins the unit that begins at the frame of this number. Returns whether it did.
+fn pin<N: BootName>(tables: &Tables<N>, cpu: &mut Cpu<N>, number: u32) -> bool
+    requires room { HasPinRoom cpu.old }
+    requires frame { number < N.table.frames }
+    ensures { MatchBool result (Pins number Held cpu.old cpu.new) (MissesPin number cpu.old cpu.new) }
+{
+    let Some(frame) = tables.words.frame(number) else {
+        unreachable!()
+    };
+    let Ok(got) = cpu.get(tables, frame) else {
+        unreachable!()
+    };
+    matches!(got, Get::Held)
 }
 
 // The group of this number; `None` if there is none.

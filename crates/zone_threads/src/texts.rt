@@ -42,7 +42,7 @@ impl<N: BootName> Behind<N> {
         cpu: &mut Cpu<N>,
         asked: TextCall,
     ) -> TextAnswer
-        ensures { ReadsAfterSettling N.frames (SaysText N.frames asked result) cpu.old cpu.new }
+        ensures { ReadsAfterSettling N.table (SaysText N.table asked result) cpu.old cpu.new }
     {
         match asked {
             TextCall::Show => self.show(alloc, tables, cpu),
@@ -53,7 +53,7 @@ impl<N: BootName> Behind<N> {
     }
 
     fn show(&mut self, alloc: Global, tables: &Tables<N>, cpu: &mut Cpu<N>) -> TextAnswer
-        ensures { ReadsAfterSettling N.frames (SaysText N.frames Show result) cpu.old cpu.new }
+        ensures { ReadsAfterSettling N.table (SaysText N.table Show result) cpu.old cpu.new }
     {
         self.locked.prove_quiet();
         let shown = show_text(alloc, &mut self.locked, tables, cpu);
@@ -65,7 +65,7 @@ impl<N: BootName> Behind<N> {
     }
 
     fn blocks(&mut self, alloc: Global, tables: &Tables<N>, cpu: &mut Cpu<N>) -> TextAnswer
-        ensures { ReadsAfterSettling N.frames (SaysText N.frames Blocks result) cpu.old cpu.new }
+        ensures { ReadsAfterSettling N.table (SaysText N.table Blocks result) cpu.old cpu.new }
     {
         self.locked.prove_quiet();
         let shown = blocks_text(alloc, &mut self.locked, tables, cpu);
@@ -77,7 +77,7 @@ impl<N: BootName> Behind<N> {
     }
 
     fn stock(&mut self, alloc: Global, tables: &Tables<N>, cpu: &mut Cpu<N>) -> TextAnswer
-        ensures { ReadsAfterSettling N.frames (SaysText N.frames Stock result) cpu.old cpu.new }
+        ensures { ReadsAfterSettling N.table (SaysText N.table Stock result) cpu.old cpu.new }
     {
         self.locked.prove_quiet();
         serve_settle(&mut self.locked, tables, cpu);
@@ -97,7 +97,7 @@ impl<N: BootName> Behind<N> {
         cpu: &mut Cpu<N>,
         path: &[u8],
     ) -> TextAnswer
-        ensures { ReadsAfterSettling N.frames (SaysUnits N.frames path.now result) cpu.old cpu.new }
+        ensures { ReadsAfterSettling N.table (SaysUnits N.table path.now result) cpu.old cpu.new }
     {
         self.locked.prove_quiet();
         serve_settle(&mut self.locked, tables, cpu);

@@ -24,13 +24,13 @@ pub struct Zone<N: BootName> {
     // No clause can look through the lock: those of calls speak of these sizes.
     pub(crate) sizes: Config,
     ghost valid: { IsValidConfig sizes },
-    ghost sized: { IsSizedAs sizes N.frames },
+    ghost sized: { IsSizedAs sizes N.table },
 }
 
 impl<N: BootName> Zone<N> {
     /// Starts a boot, with all CPUs parked. `AllocError` means that memory ran out: nothing is left then.
     pub fn start(alloc: Global, boot: Boot) -> Result<Zone<N>, AllocError>
-        requires frames { boot.frames ≡ N.frames }
+        requires frames { boot.table ≡ N.table }
         ensures { IfOk result (λ zone. zone.sizes ≡ boot.sizes) }
     {
         let (locked, tables, parked) = boot.into_parts::<N>(alloc)?;
@@ -69,7 +69,7 @@ impl<N: BootName> Zone<N> {
     /// Ends the zone. Pins that are still held are put first. `None` if the part of a CPU isn't there, which no call
     /// leaves so: the parts stay in memory then.
     pub fn end(self) -> Option<ZoneEnd<N>>
-        ensures { IfSome result (λ end. EndsParked N.frames end.found end.ended) }
+        ensures { IfSome result (λ end. EndsParked N.table end.found end.ended) }
     {
         let Zone {
             tables,

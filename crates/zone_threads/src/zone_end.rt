@@ -1,7 +1,7 @@
 //! The end of a zone, once no thread has a CPU.
 
 ghost use Rattle.std.specs.Prelude.{◌≢◌, IfNone, IfSome, length};
-ghost use Rattle.mem_system.specs.Ending.{PutsAndEnds};
+ghost use Rattle.mem_system.specs.EndsWithPins.{PutsAndEnds};
 
 use crate::behind::Behind;
 use cpu_part::{BootName, Tables};
@@ -27,8 +27,8 @@ impl<N: BootName> Drop for ZoneEnd<N> {
 /// Ends a zone by its parts, once no thread has a CPU. Pins that are still held are put first. `None` if the part of a CPU
 /// isn't there, which no call leaves so: the parts stay in memory then.
 pub fn end_parts<N: BootName>(tables: Tables<N>, behind: Behind<N>) -> Option<SystemEnd>
-    ensures ended { IfSome result (PutsAndEnds N.frames behind.locked behind.parked) }
-    ensures lost { IfNone result (length behind.parked ≢ N.frames.cpus) }
+    ensures ended { IfSome result (PutsAndEnds N.table behind.locked behind.parked) }
+    ensures lost { IfNone result (length behind.parked ≢ N.table.cpus) }
 {
     let Behind { locked, parked } = behind;
     if parked.len() != tables.words.cpus() as usize {

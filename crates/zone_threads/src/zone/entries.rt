@@ -17,7 +17,7 @@ impl<N: BootName> Home<N> {
     pub fn enter(&mut self, number: u32) -> Result<(), NotEntered>
         ensures { MatchResult result
             (λ _. TakesCpu number self.old self.new)
-            (λ reason. IfNotEntered N.frames.cpus number self.old reason self.new) }
+            (λ reason. IfNotEntered N.table.cpus number self.old reason self.new) }
     {
         if self.cpu.is_some() {
             return Err(NotEntered::HasCpu);

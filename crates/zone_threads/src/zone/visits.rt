@@ -6,8 +6,8 @@ ghost use Rattle.zone_threads.specs.Calling.{Calls, IfMissing, AnswersRead, Serv
 ghost use Rattle.zone_threads.specs.Calling.{ServesPages};
 ghost use Rattle.zone_threads.specs.Homes.{OnCpu};
 ghost use Rattle.zone_threads.specs.Shown.{ReadsText};
-ghost use Rattle.zone_threads.specs.declared.calls.Call.TheVariants.{AllocBlock, AllocDirty, ReadPages, Settle, Visit};
-ghost use Rattle.zone_threads.specs.declared.calls.Call.TheVariants.{WritePages};
+ghost use Rattle.zone_threads.specs.declared.calls.Call.TheVariants.{AllocBlock, AllocDirty, AllocPinned, ReadPages};
+ghost use Rattle.zone_threads.specs.declared.calls.Call.TheVariants.{Settle, Visit, WritePages};
 
 use crate::calls::{CallAnswer, GroupPages, ReadAnswer, ReadCall};
 use crate::home::Home;
@@ -15,15 +15,17 @@ use crate::served::Missed;
 use crate::texts::{TextAnswer, TextCall};
 use control_files::file::File;
 use control_files::limit::Limit;
-use cpu_part::BootName;
+use cpu_part::{BootName, MAX_PINS};
+use group_tree::fault::Fault;
 use mem_system::{LockedCommand, Outcome};
 use std::alloc::Global;
+use zone_blocks::order::Order;
 
 impl<N: BootName> Home<N> {
     /// Serves a command under the lock.
     pub fn visit(&mut self, cmd: &LockedCommand<'_>) -> CallAnswer
         requires some { IsSome self.old.cpu }
-        ensures { Calls N.frames (Visit cmd.now) self.old self.new result }
+        ensures { Calls N.table (Visit cmd.now) self.old self.new result }
     {
         if !is_of_zone(cmd, self.zone.tables.words.frames()) {
             return CallAnswer::NoFrame;
@@ -37,7 +39,7 @@ impl<N: BootName> Home<N> {
     /// Allocates a block under the lock.
     pub fn alloc_block(&mut self, group: u32, order: u32) -> CallAnswer
         requires some { IsSome self.old.cpu }
-        ensures { Calls N.frames (AllocBlock group order) self.old self.new result }
+        ensures { Calls N.table (AllocBlock group order) self.old self.new result }
     {
         match self.serve_block(group, order) {
             Ok(outcome) => CallAnswer::Served(outcome),
@@ -49,7 +51,7 @@ impl<N: BootName> Home<N> {
     /// Allocates a dirty unit under the lock.
     pub fn alloc_dirty(&mut self, group: u32, order: u32) -> CallAnswer
         requires some { IsSome self.old.cpu }
-        ensures { Calls N.frames (AllocDirty group order) self.old self.new result }
+        ensures { Calls N.table (AllocDirty group order) self.old self.new result }
     {
         match self.serve_dirty(group, order) {
             Ok(served) => CallAnswer::Served(served),
@@ -58,10 +60,34 @@ impl<N: BootName> Home<N> {
         }
     }
 
+    /// Allocates a block under the lock, and pins it there. Whether the CPU may have one more pin is looked at first,
+    /// then the order, and then the lock is tried.
+    pub fn alloc_pinned(&mut self, group: u32, order: u32) -> CallAnswer
+        requires some { IsSome self.old.cpu }
+        ensures { Calls N.table (AllocPinned group order) self.old self.new result }
+    {
+        let zone = &*self.zone;
+        let Some(cpu) = &mut self.cpu else {
+            unreachable!()
+        };
+        if cpu.back_len() + cpu.pin_count() == MAX_PINS {
+            return CallAnswer::Refused(Fault::PinsFull);
+        }
+        if order == 0 || order > Order::GREATEST {
+            return CallAnswer::Refused(Fault::BadOrder);
+        }
+        let Some((mut behind, loan)) = zone.take() else {
+            return CallAnswer::Busy;
+        };
+        let answer = behind.alloc_pinned(&zone.tables, cpu, group, order);
+        zone.lock.put_back(behind, loan);
+        answer
+    }
+
     /// Reads a number of pages of the group of this number under the lock.
     pub fn read_pages(&mut self, group: u32, which: GroupPages) -> CallAnswer
         requires some { IsSome self.old.cpu }
-        ensures { Calls N.frames (ReadPages group which) self.old self.new result }
+        ensures { Calls N.table (ReadPages group which) self.old self.new result }
     {
         let zone = &*self.zone;
         let Some(cpu) = &mut self.cpu else {
@@ -78,7 +104,7 @@ impl<N: BootName> Home<N> {
     /// Writes so many pages, or no limit, to this file of the group of this number under the lock.
     pub fn write_pages(&mut self, group: u32, file: File, pages: Limit) -> CallAnswer
         requires some { IsSome self.old.cpu }
-        ensures { Calls N.frames (WritePages group file pages) self.old self.new result }
+        ensures { Calls N.table (WritePages group file pages) self.old self.new result }
     {
         match self.serve_pages(group, file, pages) {
             Ok(written) => CallAnswer::Served(written),
@@ -90,7 +116,7 @@ impl<N: BootName> Home<N> {
     /// Settles the CPU under the lock.
     pub fn settle(&mut self) -> CallAnswer
         requires some { IsSome self.old.cpu }
-        ensures { Calls N.frames Settle self.old self.new result }
+        ensures { Calls N.table Settle self.old self.new result }
     {
         let zone = &*self.zone;
         let Some(cpu) = &mut self.cpu else {
@@ -107,7 +133,7 @@ impl<N: BootName> Home<N> {
     /// Reads a file of a group under the lock, with its text.
     pub fn read(&mut self, asked: &ReadCall<'_>) -> ReadAnswer
         requires some { IsSome self.old.cpu }
-        ensures { AnswersRead N.frames asked.now self.old self.new result }
+        ensures { AnswersRead N.table asked.now self.old self.new result }
     {
         let zone = &*self.zone;
         let Some(cpu) = &mut self.cpu else {
@@ -124,7 +150,7 @@ impl<N: BootName> Home<N> {
     /// Settles the CPU, and returns a text, under the lock; `None` if another thread has it.
     pub fn text(&mut self, alloc: Global, asked: TextCall) -> Option<TextAnswer>
         requires some { IsSome self.old.cpu }
-        ensures shown { IfSome result (λ answer. ReadsText N.frames asked answer self.old self.new) }
+        ensures shown { IfSome result (λ answer. ReadsText N.table asked answer self.old self.new) }
         ensures busy { IfNone result (self.new ≡ self.old) }
     {
         let zone = &*self.zone;
@@ -140,9 +166,9 @@ impl<N: BootName> Home<N> {
     // Serves a command under the lock; `None` if another thread has it.
     pub(crate) fn serve(&mut self, cmd: &LockedCommand<'_>) -> Option<Outcome>
         requires some { IsSome self.old.cpu }
-        requires of_zone { IsOfZone N.frames cmd.now }
+        requires of_zone { IsOfZone N.table cmd.now }
         ensures served { IfSome result (λ outcome.
-            OnCpu (IsVisited N.frames self.old.sizes (ServesOutcome N.frames cmd.now outcome))
+            OnCpu (IsVisited N.table self.old.sizes (ServesOutcome N.table cmd.now outcome))
             self.old self.new) }
         ensures busy { IfNone result (self.new ≡ self.old) }
     {
@@ -160,9 +186,9 @@ impl<N: BootName> Home<N> {
     pub(crate) fn serve_frame(&mut self, group: u32) -> Result<Outcome, Missed>
         requires some { IsSome self.old.cpu }
         ensures { MatchResult result
-            (λ outcome. OnCpu (IsVisited N.frames self.old.sizes (ServesFrameOutcome N.frames group outcome))
+            (λ outcome. OnCpu (IsVisited N.table self.old.sizes (ServesFrameOutcome N.table group outcome))
             self.old self.new)
-            (λ missed. IfMissing N.frames group missed self.old self.new) }
+            (λ missed. IfMissing N.table group missed self.old self.new) }
     {
         let zone = &*self.zone;
         let Some(cpu) = &mut self.cpu else {
@@ -183,9 +209,9 @@ impl<N: BootName> Home<N> {
     fn serve_block(&mut self, group: u32, order: u32) -> Result<Outcome, Missed>
         requires some { IsSome self.old.cpu }
         ensures { MatchResult result
-            (λ outcome. OnCpu (IsVisited N.frames self.old.sizes (ServesBlock N.frames group order outcome))
+            (λ outcome. OnCpu (IsVisited N.table self.old.sizes (ServesBlock N.table group order outcome))
             self.old self.new)
-            (λ missed. IfMissing N.frames group missed self.old self.new) }
+            (λ missed. IfMissing N.table group missed self.old self.new) }
     {
         let zone = &*self.zone;
         let Some(cpu) = &mut self.cpu else {
@@ -206,9 +232,9 @@ impl<N: BootName> Home<N> {
     fn serve_dirty(&mut self, group: u32, order: u32) -> Result<Outcome, Missed>
         requires some { IsSome self.old.cpu }
         ensures { MatchResult result
-            (λ outcome. OnCpu (IsVisited N.frames self.old.sizes (ServesDirtyUnit N.frames group order outcome))
+            (λ outcome. OnCpu (IsVisited N.table self.old.sizes (ServesDirtyUnit N.table group order outcome))
             self.old self.new)
-            (λ missed. IfMissing N.frames group missed self.old self.new) }
+            (λ missed. IfMissing N.table group missed self.old self.new) }
     {
         let zone = &*self.zone;
         let Some(cpu) = &mut self.cpu else {
@@ -229,9 +255,9 @@ impl<N: BootName> Home<N> {
     fn serve_pages(&mut self, group: u32, file: File, pages: Limit) -> Result<Outcome, Missed>
         requires some { IsSome self.old.cpu }
         ensures { MatchResult result
-            (λ outcome. OnCpu (IsVisited N.frames self.old.sizes (ServesPages N.frames group file pages outcome))
+            (λ outcome. OnCpu (IsVisited N.table self.old.sizes (ServesPages N.table group file pages outcome))
             self.old self.new)
-            (λ missed. IfMissing N.frames group missed self.old self.new) }
+            (λ missed. IfMissing N.table group missed self.old self.new) }
     {
         let zone = &*self.zone;
         let Some(cpu) = &mut self.cpu else {

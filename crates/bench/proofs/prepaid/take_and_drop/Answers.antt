@@ -2,7 +2,7 @@
 use Rattle.std.proofs.Common.{◌≡◌, ℕ, ◌≤◌, List, [], ◌∷◌, ◌++◌, ap, arith}
 use Rattle.step_rules.specs.State.{times}
 use Rattle.step_rules.proofs.Lists.{times_last, times_same}
-use Rattle.cpu_part.specs.Cpus.{KnownCpu}
+use Rattle.cpu_part.specs.Cpus.{KnownCpuLists}
 use Rattle.bench.proofs.prepaid.take_and_drop.Goals as goal
 
 taken_is_fresh : (f : ℕ) (before after : List ℕ) → after ≡ before ++ f ∷ [] → 1 ≤ times f after
@@ -12,4 +12,4 @@ taken_is_fresh f before after is =
     omega (arith, last, one, fresh)
 
 pub drop_fresh-requires : goal.drop_fresh-requires
-drop_fresh-requires g c = taken_is_fresh _ _ _ (ap (λ (k : KnownCpu). k.fresh) c.in-Got.ensures.answer.part)
+drop_fresh-requires g c = taken_is_fresh _ _ _ (ap (λ (k : KnownCpuLists). k.fresh) c.in-Got.ensures.answer.part)

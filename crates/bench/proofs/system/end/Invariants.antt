@@ -2,4 +2,4 @@ use Rattle.std.proofs.Common.{◌≡◌, length}
 use Rattle.bench.proofs.system.end.Given as goal
 
 abbrev pub invariant-loop : goal.invariant-loop
-invariant-loop g l = length l.cpus.items ≡ g.N.BootName.frames.cpus
+invariant-loop g l = length l.cpus.items ≡ g.N.BootName.table.cpus

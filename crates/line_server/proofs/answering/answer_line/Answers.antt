@@ -11,7 +11,7 @@ returns-in_err-serve_line-in-Answers g c =
     let e : SystemState = system_state c.serve_line.new.locked c.serve_line.new.cpus in
     let served = c.serve_line.ensures.served in
     record {
-      served = answered_in c.from_residual.result g.N.BootName.frames c.args.form (Answers c.in-Answers.is_explained) c.args.text.now
+      served = answered_in c.from_residual.result g.N.BootName.table c.args.form (Answers c.in-Answers.is_explained) c.args.text.now
           c.args.line.now s e served.text c.in-Answers.is served.so (search rules);
     }
 
@@ -22,7 +22,7 @@ returns-in_ok-serve_line-in-Answers g c =
     let served = c.in_ok-serve_line-in-Answers.ensures.served in
     let told : c.into_bytes.result.items ≡ served.text = search rules in
     record {
-      served = answered_in _ g.N.BootName.frames c.args.form (Answers c.in-Answers.is_explained) c.args.text.now
+      served = answered_in _ g.N.BootName.table c.args.form (Answers c.in-Answers.is_explained) c.args.text.now
           c.args.line.now s e served.text c.in-Answers.is served.so told;
     }
 
@@ -32,7 +32,7 @@ returns-in_err-log_line-in-Steps g c =
     let e : SystemState = system_state c.log_line.new.locked c.log_line.new.cpus in
     let logged = c.log_line.ensures.logged in
     record {
-      served = answered_in c.from_residual-in_err-log_line-in-Steps.result g.N.BootName.frames c.args.form Steps c.args.text.now c.args.line.now s e logged.part
+      served = answered_in c.from_residual-in_err-log_line-in-Steps.result g.N.BootName.table c.args.form Steps c.args.text.now c.args.line.now s e logged.part
           c.in-Steps.is logged.so (search rules);
     }
 
@@ -43,5 +43,5 @@ returns-in_ok-log_line-in-Steps g c =
     let logged = c.in_ok-log_line-in-Steps.ensures.logged in
     let told : c.log_line.new.log.items ≡ logged.part = search rules in
     record {
-      served = answered_in _ g.N.BootName.frames c.args.form Steps c.args.text.now c.args.line.now s e logged.part c.in-Steps.is logged.so told;
+      served = answered_in _ g.N.BootName.table c.args.form Steps c.args.text.now c.args.line.now s e logged.part c.in-Steps.is logged.so told;
     }

@@ -8,7 +8,7 @@ use Rattle.line_server.proofs.logging.log_line.Goals as goal
 
 pub returns-in_err-serve_line : goal.returns-in_err-serve_line
 returns-in_err-serve_line g c =
-    let on : Terms = terms g.N.BootName.frames true in
+    let on : Terms = terms g.N.BootName.table true in
     let s : SystemState = system_state c.args.locked.now c.args.cpus.now in
     let begun : SystemState = system_state c.set_watch.new.self c.args.cpus.now in
     let e : SystemState = system_state c.serve_line.new.locked c.serve_line.new.cpus in
@@ -18,7 +18,7 @@ returns-in_err-serve_line g c =
 
 pub returns-in_err-add_line : goal.returns-in_err-add_line
 returns-in_err-add_line g c =
-    let on : Terms = terms g.N.BootName.frames true in
+    let on : Terms = terms g.N.BootName.table true in
     let s : SystemState = system_state c.args.locked.now c.args.cpus.now in
     let begun : SystemState = system_state c.set_watch.new.self c.args.cpus.now in
     let e : SystemState = system_state c.serve_line.new.locked c.serve_line.new.cpus in
@@ -28,7 +28,7 @@ returns-in_err-add_line g c =
 
 pub returns-in_err-add_steps : goal.returns-in_err-add_steps
 returns-in_err-add_steps g c =
-    let on : Terms = terms g.N.BootName.frames true in
+    let on : Terms = terms g.N.BootName.table true in
     let s : SystemState = system_state c.args.locked.now c.args.cpus.now in
     let begun : SystemState = system_state c.set_watch.new.self c.args.cpus.now in
     let e : SystemState = system_state c.serve_line.new.locked c.serve_line.new.cpus in
@@ -38,7 +38,7 @@ returns-in_err-add_steps g c =
 
 pub returns : goal.returns
 returns g c =
-    let on : Terms = terms g.N.BootName.frames true in
+    let on : Terms = terms g.N.BootName.table true in
     let s : SystemState = system_state c.args.locked.now c.args.cpus.now in
     let begun : SystemState = system_state c.set_watch.new.self c.args.cpus.now in
     let e : SystemState = system_state c.serve_line.new.locked c.serve_line.new.cpus in

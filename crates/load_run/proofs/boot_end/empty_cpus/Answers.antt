@@ -12,19 +12,19 @@ unreachable-requires g c =
     let long = turn_long PutsAllPins _ _ _ _ c.put_all_pins.ensures.puts ∙ ap length first in
     let same = written_back c.in-Err.pinned.cpus.len c.put_all_pins.new.cpus c.in-Err.pinned.cpus.items long (sym c.deref_mut.ensures.len ∙ ap length first) in
     let none : c.in-Err-make_last_visits.field-0.pins ≡ 0 =
-    c.in-Err-make_last_visits.ensures.pins ∙ ap (λ (l : List CpuInRun). pins_of_all (parts_of l)) same ∙ none_pinned _ _ _ _ c.put_all_pins.ensures.puts in
-    let some = c.in-Err-make_last_visits.ensures.some_pin in
+    c.in-Err-make_last_visits.ensures.pinned.pins ∙ ap (λ (l : List CpuInRun). pins_of_all (parts_of l)) same ∙ none_pinned _ _ _ _ c.put_all_pins.ensures.puts in
+    let some = c.in-Err-make_last_visits.ensures.pinned.some_pin in
     omega arith
 
 pub returns-in-Ok : goal.returns-in-Ok
 returns-in-Ok g c = record {
-  leaves = leaves_free g.N.BootName.frames (system_state c.args.locked c.args.cpus.items) c.in-Ok.emptied c.in-Ok.ensures.visits;
+  leaves = leaves_free g.N.BootName.table (system_state c.args.locked c.args.cpus.items) c.in-Ok.emptied c.in-Ok.ensures.visits;
 }
 
 pub returns-in-Ok-make_last_visits : goal.returns-in-Ok-make_last_visits
 returns-in-Ok-make_last_visits g c =
-    let t = g.N.BootName.frames in
-    let same = c.in-Err.ensures in
+    let t = g.N.BootName.table in
+    let same = c.in-Err.ensures.pinned in
     let put = c.put_all_pins.ensures in
     let now = c.put_all_pins.new in
     let first = c.deref_mut.ensures.value in

@@ -1,9 +1,9 @@
 use Rattle.std.proofs.Common.{◌≡◌, ℕ, List, true, [], ◌++◌, ◌∙◌, ap, length, refl, subst, sym}
 use Rattle.std.proofs.lemmas.Result.{IfErr-at_err, IfOk-at_ok, err_from_is_err_and}
+use Rattle.boot_words.specs.{zone_of_boot}
 use Rattle.mem_system.specs.{CpuInRun, KnownLocked}
 use Rattle.step_watch.specs.Watched.{has_legal_steps}
-use Rattle.mem_machine.specs.Interleaving.{zone_of}
-use Rattle.script_replay.specs.{past, HasRun, SystemState, system_state, form_terms}
+use Rattle.script_replay.specs.{lines_so_far, HasRun, SystemState, system_state, form_terms}
 use Rattle.load_run.specs.{checked_text, EndsChecked, boot_end_text}
 use Rattle.load_run.proofs.Starting.{boot_agrees, boot_shown, given_back, lent_parts, lent_so_far, lines_there}
 use Rattle.load_run.proofs.Stopped.{new_watched, stop_told}
@@ -29,7 +29,7 @@ end_checked_boot-requires g c =
 pub returns-in_err-answers : goal.returns-in_err-answers
 returns-in_err-answers g c =
     let booted = c.in_ok-locked.ensures in
-    let new = new_watched c.args.boot.sizes c.args.sizes g.N.BootName.frames _ c.deref_mut.result.now _ _ booted.sized c.requires.sizes
+    let new = new_watched c.args.boot.sizes c.args.sizes g.N.BootName.table _ c.deref_mut.result.now _ _ booted.sized c.requires.sizes
     booted.machine booted.sizes (lent_parts _ _ c.deref_mut.ensures.value booted.cpus) (lent_so_far _ _ _ c.deref_mut.ensures.value booted.so_far)
     c.in_ok-watch.ensures c.set_watch.ensures in
     let p = err_from_is_err_and c.from_residual-in_err-answers.result c.from_residual-in_err-answers.ensures.1 in
@@ -41,7 +41,7 @@ returns-in_err-answers g c =
 
 pub returns-then-not-seen : goal.returns-then-not-seen
 returns-then-not-seen g c =
-    let t = g.N.BootName.frames in
+    let t = g.N.BootName.table in
     let booted = c.in_ok-locked.ensures in
     let left = c.replay_checked-answers.new in
     let new = new_watched c.args.boot.sizes c.args.sizes t _ c.deref_mut.result.now _ _ booted.sized c.requires.sizes
@@ -68,7 +68,7 @@ returns-then-not-seen g c =
 
 pub returns : goal.returns
 returns g c =
-    let t = g.N.BootName.frames in
+    let t = g.N.BootName.table in
     let booted = c.in_ok-locked.ensures in
     let left = c.replay_checked-answers.new in
     let new = new_watched c.args.boot.sizes c.args.sizes t _ c.deref_mut.result.now _ _ booted.sized c.requires.sizes
@@ -81,10 +81,10 @@ returns g c =
     let tells = replays.history (boot_shown _ _ _ new.first) (boot_agrees _ _ _ new.first) new.watched in
     let held = ends.ends in
     let on : has_legal_steps held.emptied.machine.run.watch ≡ true = sym ends.is_legal ∙ c.if-not-seen.false in
-    let saw = saw_more (zone_of t) tells.run left.locked.machine.run.watch held.leaves.steps held.emptied.machine.run.watch tells.saw held.leaves.watched on in
+    let saw = saw_more (zone_of_boot t) tells.run left.locked.machine.run.watch held.leaves.steps held.emptied.machine.run.watch tells.saw held.leaves.watched on in
     let start : SystemState = system_state c.set_watch.new.self c.deref_mut.result.now in
     let end : SystemState = system_state left.locked left.cpus in
-    let has : HasRun tells.run end = kept_goes_on (form_terms t c.args.form) c.args.lines.now (past [] start) (past tells.run end) _ tells.history new.first.so_far in
+    let has : HasRun tells.run end = kept_goes_on (form_terms t c.args.form) c.args.lines.now (lines_so_far [] start) (lines_so_far tells.run end) _ tells.history new.first.so_far in
     let shown = c.in_ok-told.told.items in
     record {
       answers = record {

@@ -5,7 +5,7 @@ use Rattle.load_run.proofs.logging.log_each.Goals as goal
 
 pub loop-next-preserved : goal.loop-next-preserved
 loop-next-preserved g c =
-    let on = terms g.N.BootName.frames true in
+    let on = terms g.N.BootName.table true in
     let texts = map (λ (text : Bor (List ℕ)). text.now) c.args.texts.now in
     let m = system_state c.loop-next.locked c.loop-next.cpus in
     let e = system_state c.log_line.new.locked c.log_line.new.cpus in

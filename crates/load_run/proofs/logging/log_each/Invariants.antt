@@ -5,5 +5,5 @@ use Rattle.load_run.proofs.logging.log_each.Given as goal
 
 abbrev pub invariant-loop-next : goal.invariant-loop-next
 invariant-loop-next g l =
-    GrowsBy (λ log. InOrder (LogsNext (terms g.N.BootName.frames true) (map (λ text. text.now) l.texts)) (take l.next-index l.lines)
+    GrowsBy (λ log. InOrder (LogsNext (terms g.N.BootName.table true) (map (λ text. text.now) l.texts)) (take l.next-index l.lines)
     (system_state l.initial.locked l.initial.cpus) (system_state l.locked l.cpus) log) l.initial.log.items l.log.items

@@ -20,7 +20,7 @@ log_end-ended-requires g c =
 
 pub returns : goal.returns
 returns g c =
-    let t = g.N.BootName.frames in
+    let t = g.N.BootName.table in
     let booted = c.in_ok-locked.ensures in
     let left = c.log_each-served.new in
     let start : SystemState = system_state c.in_ok-locked.locked c.deref_mut.result.now in

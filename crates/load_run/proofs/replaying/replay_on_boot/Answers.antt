@@ -1,7 +1,7 @@
 use Rattle.std.proofs.Common.{◌∙◌, ◌++◌, List, [], ap, length, refl, subst}
+use Rattle.boot_words.specs.{zone_of_boot}
 use Rattle.mem_system.specs.Cpus.{CpuInRun}
 use Rattle.step_rules.specs.After.{Run}
-use Rattle.mem_machine.specs.Interleaving.{zone_of}
 use Rattle.mem_history.proofs.Along.{legal_front}
 use Rattle.script_replay.specs.{HasRun, SystemState, steps_of_served, system_state, form_terms}
 use Rattle.script_replay.proofs.Gaining.{all_lines_go_on}
@@ -25,7 +25,7 @@ end_boot-ended-requires g c =
 
 pub returns : goal.returns
 returns g c =
-    let t = g.N.BootName.frames in
+    let t = g.N.BootName.table in
     let booted = c.in_ok-locked.ensures in
     let left = c.replay-answers.new in
     let start : SystemState = system_state c.in_ok-locked.locked c.deref_mut.result.now in
@@ -42,7 +42,7 @@ returns g c =
     let ends = subst (λ (cpus : List CpuInRun). EndsHeld t (system_state left.locked cpus) told)
     (given_back _ _ _ _ c.deref_mut.ensures.value c.deref_mut.ensures.len c.replay-answers.auto.cpus) c.end_boot-ended.ensures.ends in
     let all = whole_run t run end told has ends in
-    let legal = legal_front (zone_of t) run ends.leaves.steps all.leads.legal in
+    let legal = legal_front (zone_of_boot t) run ends.leaves.steps all.leads.legal in
     record {
       answers = IfOk-weaker c.with_end.result _ _ (λ text is. record {
         frames = t;

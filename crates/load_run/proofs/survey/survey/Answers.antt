@@ -7,7 +7,7 @@ use Rattle.load_run.proofs.survey.survey.Goals as goal
 
 pub returns : goal.returns
 returns g c =
-    let t = g.N.BootName.frames in
+    let t = g.N.BootName.table in
     let one = c.meet_each in
     let two = c.meet_each-2 in
     record {

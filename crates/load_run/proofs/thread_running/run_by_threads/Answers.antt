@@ -4,7 +4,7 @@ use Rattle.std.proofs.Common.{◌≡◌, ◌∙◌, ◌≤◌, ℕ, false, List,
 use Rattle.std.proofs.lemmas.Result.{IfOk-at_ok, IfOk-weaker}
 use Rattle.zone_blocks.specs.declared.config.Config.{Config}
 use Rattle.mem_system.specs.{CpuInRun, KnownLocked}
-use Rattle.script_replay.specs.{ServesAll, SystemState, system_state, boot_tables, numbered_terms, AreAllAnswers, workers_from}
+use Rattle.script_replay.specs.{ServesAll, SystemState, system_state, known_system, numbered_terms, AreAllAnswers, workers_from}
 use Rattle.script_replay.proofs.Running.{go_least}
 use Rattle.load_run.specs.{EndsHeld, boot_end_text, SeesAllPasts}
 use Rattle.load_run.proofs.Starting.{given_back, lent_parts, lent_so_far, new_state}
@@ -29,7 +29,7 @@ pub serve_later-told-requires-clause-count : goal.serve_later-told-requires-clau
 serve_later-told-requires-clause-count g c =
     let back = given_back _ _ _ _ c.deref_mut.ensures.value c.deref_mut.ensures.len c.replay-first.auto.cpus in
     let looked = given_back _ _ _ _ c.deref_mut-2.ensures.value c.deref_mut-2.ensures.len c.survey.auto.cpus in
-    let long : length c.deref_mut-3.result.now ≡ g.N.BootName.frames.cpus =
+    let long : length c.deref_mut-3.result.now ≡ g.N.BootName.table.cpus =
     ap length (c.deref_mut-3.ensures.value ∙ looked) ∙ c.survey.auto.cpus ∙ ap length (c.deref_mut-2.ensures.value ∙ back) ∙ c.replay-first.auto.cpus
     ∙ ap length c.deref_mut.ensures.value ∙ c.in_ok-locked.ensures.count in
     let sized = c.prove_quiet.ensures.quiet.sized.cpus in
@@ -69,7 +69,7 @@ end_boot-ended-requires g c =
 
 pub returns : goal.returns
 returns g c =
-    let t = g.N.BootName.frames in
+    let t = g.N.BootName.table in
     let sizes = c.args.boot.sizes in
     let lines = c.args.lines.now in
     let is_numbered = c.args.is_numbered in
@@ -98,8 +98,8 @@ returns g c =
     let sees = subst (λ (cpus : List CpuInRun). SeesAllPasts t (system_state c.replay-first.new.locked cpus) at_go) met c.survey.ensures.sees in
     let all = IfOk-at_ok _ c.in_ok-told.was c.serve_later-told.ensures.told in
     let kept = c.of-system.ensures.sizes ∙ ap (λ (l : KnownLocked). l.sizes) c.set_sizes.ensures ∙ c.sizes-sizes.ensures.are ∙ booted.sizes in
-    let tells : AreAllAnswers (boot_tables t sizes) (workers_from 1 at_go.cpus c.split_at.result.1.now is_numbered) end.cpus all.0 later =
-    subst (λ (x : List CpuInRun × Config). AreAllAnswers (boot_tables t x.1) (workers_from 1 x.0 c.split_at.result.1.now is_numbered) end.cpus all.0 later)
+    let tells : AreAllAnswers (known_system t sizes) (workers_from 1 at_go.cpus c.split_at.result.1.now is_numbered) end.cpus all.0 later =
+    subst (λ (x : List CpuInRun × Config). AreAllAnswers (known_system t x.1) (workers_from 1 x.0 c.split_at.result.1.now is_numbered) end.cpus all.0 later)
     (λ i. (lent i, kept i)) all.1 in
     let long = c.serve_later-told.auto.cpus ∙ ap length lent ∙ c.survey.auto.cpus ∙ ap length met ∙ c.replay-first.auto.cpus ∙ ap length shown ∙ booted.count in
     let sees_end = subst (λ (cpus : List CpuInRun). SeesAllPasts t (system_state c.into_parts-locked.result.0 cpus) at_end) left c.survey-2.ensures.sees in

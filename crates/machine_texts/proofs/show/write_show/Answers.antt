@@ -10,7 +10,7 @@ use Rattle.machine_texts.proofs.show.write_show.Goals as goal
 pub write_places-requires : goal.write_places-requires
 write_places-requires g c =
     let legal = subst AreCharges c.charges-charges.ensures c.tree.ensures.legal in
-    let there = frame_states_there g.N.BootName.frames c.args.machine.now c.frame_states.ensures.consistent legal in
+    let there = frame_states_there g.N.BootName.table c.args.machine.now c.frame_states.ensures.consistent legal in
     let groups = c.tree.ensures.tree ∙ ap (λ (l : Ledger). l.groups) c.charges-charges.ensures in
     subst (λ (x : List Group). (k : ℕ) (d : FrameState) → k < length c.frame_states.result.now → FrameGroupExists x (get_or c.frame_states.result.now k d))
     (sym groups)

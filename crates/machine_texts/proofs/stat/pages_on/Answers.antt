@@ -27,5 +27,5 @@ pub returns-clause-few : goal.returns-clause-few
 returns-clause-few g c =
     let told : c.sum.result ≡ pages_on c.args.machine.now c.args.list c.args.only_dirty c.args.group = returns-clause-pages g c in
     let short : length (entries_in c.args.machine.now c.args.group c.args.list) < 2 ^ 32 = search rules in
-    let few = few_on g.N.BootName.frames c.args.machine.now c.prove_consistent.ensures c.args.only_dirty (entries_in c.args.machine.now c.args.group c.args.list) in
+    let few = few_on g.N.BootName.table c.args.machine.now c.prove_consistent.ensures c.args.only_dirty (entries_in c.args.machine.now c.args.group c.args.list) in
     omega (arith, told, short, few)

@@ -8,7 +8,7 @@ use Rattle.mem_alloc.proofs.blocks.reclaim_until_taken.Goals as goal
 
 pub loop-round-init : goal.loop-round-init
 loop-round-init g c =
-    rounds_none g.N.BootName.frames (2 ^ c.args.order) (FindsNoBlock c.args.group c.args.order) (TakesFreeBlock c.args.group c.args.order)
+    rounds_none g.N.BootName.table (2 ^ c.args.order) (FindsNoBlock c.args.group c.args.order) (TakesFreeBlock c.args.group c.args.order)
     c.args.machine.now c.args.cpu.now
 
 pub reclaim_anywhere-freed-requires : goal.reclaim_anywhere-freed-requires
@@ -21,7 +21,7 @@ take_block-requires-clause-visit g c =
 
 pub returns-in-Ok-clause-takes : goal.returns-in-Ok-clause-takes
 returns-in-Ok-clause-takes g c =
-    let t = g.N.BootName.frames in
+    let t = g.N.BootName.table in
     let freed = c.reclaim_anywhere-freed.result in
     let x = c.reclaim_anywhere-freed.new.machine in
     let wants : c.from.result ≡ 2 ^ c.args.order = c.from.ensures ∙ c.frames-pages.ensures.frames in
@@ -35,7 +35,7 @@ returns-in-Ok-clause-takes g c =
 
 pub returns-in-Err-NoBlock-clause-takes : goal.returns-in-Err-NoBlock-clause-takes
 returns-in-Err-NoBlock-clause-takes g c =
-    let t = g.N.BootName.frames in
+    let t = g.N.BootName.table in
     let freed = c.reclaim_anywhere-freed.result in
     let x = c.reclaim_anywhere-freed.new.machine in
     let wants : c.from.result ≡ 2 ^ c.args.order = c.from.ensures ∙ c.frames-pages.ensures.frames in
@@ -51,7 +51,7 @@ returns-in-Err-NoBlock-clause-takes g c =
 
 pub loop-round-preserved : goal.loop-round-preserved
 loop-round-preserved g c =
-    let t = g.N.BootName.frames in
+    let t = g.N.BootName.table in
     let freed = c.reclaim_anywhere-freed.result in
     let x = c.reclaim_anywhere-freed.new.machine in
     let wants : c.from.result ≡ 2 ^ c.args.order = c.from.ensures ∙ c.frames-pages.ensures.frames in
@@ -71,7 +71,7 @@ loop-round-preserved g c =
 
 pub returns-clause-takes : goal.returns-clause-takes
 returns-clause-takes g c =
-    rounds_done g.N.BootName.frames (2 ^ c.args.order) (FindsNoBlock c.args.group c.args.order) (TakesFreeBlock c.args.group c.args.order)
+    rounds_done g.N.BootName.table (2 ^ c.args.order) (FindsNoBlock c.args.group c.args.order) (TakesFreeBlock c.args.group c.args.order)
     c.args.machine.now c.args.cpu.now c.loop-round.round c.loop-round.machine c.loop-round.cpu c.loop-round.invariant
     c.loop-round-test.false
 

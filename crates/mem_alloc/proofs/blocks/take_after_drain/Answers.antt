@@ -1,7 +1,7 @@
 use Rattle.std.proofs.Common.{◌+◌, ◌^◌, ◌<◌, sym, ap, ◌∙◌, subst}
 use Rattle.group_tree.specs.{has_group, PathHasRoom}
 use Rattle.group_charge.specs.Charges.{current_of}
-use Rattle.cpu_part.specs.Cpus.{KnownCpu}
+use Rattle.cpu_part.specs.Cpus.{KnownCpuLists}
 use Rattle.group_charge.specs.declared.note.Note.TheVariants.{Zone}
 use Rattle.mem_machine.specs.{KnownMachine, is_killed, with_note, Visits, visit_state}
 use Rattle.mem_alloc.specs.Blocks.{MakesTakeRounds, MayHaveBlock}
@@ -35,26 +35,26 @@ unreachable-requires g c =
 
 pub returns-in-Ok : goal.returns-in-Ok
 returns-in-Ok g c = record {
-  takes = takes_after g.N.BootName.frames c.args.group c.args.order _ _ _ _ _ _ c.drain_list.result c.list_len-listed.result c.list_len-listed.ensures.count
+  takes = takes_after g.N.BootName.table c.args.group c.args.order _ _ _ _ _ _ c.drain_list.result c.list_len-listed.result c.list_len-listed.ensures.count
       c.drain_list.ensures.at_most c.drain_list.ensures.takes c.drain_list.ensures.fewer_only_at_the_end c.in-Ok.ensures.cpu c.drain_list.ensures.steps
       c.in-Ok.head c.in-Ok.ensures.takes c.in-Ok.ensures.steps;
   stays =
       let part = back_part _ _ _ _ _ c.drain_list.ensures.takes in
       record {
         visit = c.take_block.ensures.visit;
-        number = ap (λ (e : KnownCpu). e.number) c.take_block.ensures.cpu ∙ part.number;
-        back = ap (λ (e : KnownCpu). e.back) c.take_block.ensures.cpu ∙ part.back;
+        number = ap (λ (e : KnownCpuLists). e.number) c.take_block.ensures.cpu ∙ part.number;
+        back = ap (λ (e : KnownCpuLists). e.back) c.take_block.ensures.cpu ∙ part.back;
       };
-  fresh = ap (λ (e : KnownCpu). e.fresh) c.take_block.ensures.cpu ∙ (back_part _ _ _ _ _ c.drain_list.ensures.takes).fresh ∙ c.requires.settled.0;
-  list = list_shrinks g.N.BootName.frames c.args.group c.args.order _ _ c.take_block.new.self _ _ _ c.drain_list.result c.list_len-listed.result
+  fresh = ap (λ (e : KnownCpuLists). e.fresh) c.take_block.ensures.cpu ∙ (back_part _ _ _ _ _ c.drain_list.ensures.takes).fresh ∙ c.requires.settled.0;
+  list = list_shrinks g.N.BootName.table c.args.group c.args.order _ _ c.take_block.new.self _ _ _ c.drain_list.result c.list_len-listed.result
       c.list_len-listed.ensures.count
       c.drain_list.ensures.at_most c.drain_list.ensures.takes c.drain_list.ensures.fewer_only_at_the_end c.in-Ok.ensures.cpu c.drain_list.ensures.steps;
 }
 
 pub reclaim_until_taken-requires : goal.reclaim_until_taken-requires
 reclaim_until_taken-requires g c = record {
-  visit = subst (λ (x : KnownMachine). Visits g.N.BootName.frames x c.take_block.new.cpu) (sym c.note.ensures)
-      (noted_visit g.N.BootName.frames c.take_block.new.self c.take_block.new.cpu _ c.take_block.ensures.visit);
+  visit = subst (λ (x : KnownMachine). Visits g.N.BootName.table x c.take_block.new.cpu) (sym c.note.ensures)
+      (noted_visit g.N.BootName.table c.take_block.new.self c.take_block.new.cpu _ c.take_block.ensures.visit);
   room =
       let none = is_none _ _ c.args.group c.args.order c.in-Err-NoBlock.field-0 c.in-Err-NoBlock.field-0-is c.in-Err-NoBlock.ensures.refuses in
       let part = back_part _ _ _ _ _ c.drain_list.ensures.takes in
@@ -62,18 +62,18 @@ reclaim_until_taken-requires g c = record {
       let fits = subst (λ l. current_of l 0 + 2 ^ c.args.order < 2 ^ 32) (sym part.ledger) c.requires.room.charges.fits in
       subst (λ (x : KnownMachine). MayHaveBlock x c.args.group c.args.order) (sym c.note.ensures)
       (noted_room c.take_block.new.self _ c.args.group c.args.order
-      (none_leaves g.N.BootName.frames c.args.group c.args.order c.drain_list.new.self c.take_block.new.self c.drain_list.new.cpu
+      (none_leaves g.N.BootName.table c.args.group c.args.order c.drain_list.new.self c.take_block.new.self c.drain_list.new.cpu
       c.take_block.new.cpu none (ap (λ l. is_killed l c.args.group) part.killed ∙ c.requires.room.charges.alive) there fits));
   settled =
       let part = back_part _ _ _ _ _ c.drain_list.ensures.takes in (
-        ap (λ (e : KnownCpu). e.fresh) c.in-Err-NoBlock.ensures.cpu ∙ part.fresh ∙ c.requires.settled.0,
-        ap (λ (e : KnownCpu). e.back) c.in-Err-NoBlock.ensures.cpu ∙ part.back ∙ c.requires.settled.1,
+        ap (λ (e : KnownCpuLists). e.fresh) c.in-Err-NoBlock.ensures.cpu ∙ part.fresh ∙ c.requires.settled.0,
+        ap (λ (e : KnownCpuLists). e.back) c.in-Err-NoBlock.ensures.cpu ∙ part.back ∙ c.requires.settled.1,
       );
 }
 
 pub returns-in-Err-NoBlock : goal.returns-in-Err-NoBlock
 returns-in-Err-NoBlock g c =
-    let rounds = zone_noted g.N.BootName.frames c.args.order (MakesTakeRounds c.args.group c.args.order c.reclaim_until_taken.result)
+    let rounds = zone_noted g.N.BootName.table c.args.order (MakesTakeRounds c.args.group c.args.order c.reclaim_until_taken.result)
     c.take_block.new.self c.note.new.self c.take_block.new.cpu (visit_state c.reclaim_until_taken.new.machine c.reclaim_until_taken.new.cpu)
     (c.note.ensures ∙ ap (λ k. with_note c.take_block.new.self (Zone k)) c.exponent.ensures.exponent) c.reclaim_until_taken.ensures.takes in
     let none = is_none _ _ c.args.group c.args.order c.in-Err-NoBlock.field-0 c.in-Err-NoBlock.field-0-is c.in-Err-NoBlock.ensures.refuses in
@@ -81,17 +81,17 @@ returns-in-Err-NoBlock g c =
     let part = back_part _ _ _ _ _ c.drain_list.ensures.takes in
     let cpu = c.reclaim_until_taken.ensures.cpu ∙ c.in-Err-NoBlock.ensures.cpu in
     record {
-      takes = reclaims_after g.N.BootName.frames c.args.group c.args.order _ _ _ _ _ _ c.drain_list.result c.list_len-listed.result
+      takes = reclaims_after g.N.BootName.table c.args.group c.args.order _ _ _ _ _ _ c.drain_list.result c.list_len-listed.result
           c.list_len-listed.ensures.count c.drain_list.ensures.at_most c.drain_list.ensures.takes c.drain_list.ensures.fewer_only_at_the_end
           cpu c.drain_list.ensures.steps _ _ none c.in-Err-NoBlock.ensures.cpu vain
           c.reclaim_until_taken.result rounds;
       stays = record {
         visit = c.reclaim_until_taken.ensures.visit;
-        number = ap (λ (e : KnownCpu). e.number) cpu ∙ part.number;
-        back = ap (λ (e : KnownCpu). e.back) cpu ∙ part.back;
+        number = ap (λ (e : KnownCpuLists). e.number) cpu ∙ part.number;
+        back = ap (λ (e : KnownCpuLists). e.back) cpu ∙ part.back;
       };
-      fresh = ap (λ (e : KnownCpu). e.fresh) cpu ∙ part.fresh ∙ c.requires.settled.0;
-      list = list_shrinks g.N.BootName.frames c.args.group c.args.order _ _ c.reclaim_until_taken.new.machine _ _ _ c.drain_list.result
+      fresh = ap (λ (e : KnownCpuLists). e.fresh) cpu ∙ part.fresh ∙ c.requires.settled.0;
+      list = list_shrinks g.N.BootName.table c.args.group c.args.order _ _ c.reclaim_until_taken.new.machine _ _ _ c.drain_list.result
           c.list_len-listed.result c.list_len-listed.ensures.count c.drain_list.ensures.at_most c.drain_list.ensures.takes
           c.drain_list.ensures.fewer_only_at_the_end cpu c.drain_list.ensures.steps;
     }

@@ -15,7 +15,7 @@ returns-then-not-path_has_high_room-clause-lacks g c _ = record {
         ∙ c.if-not-path_has_high_room.true),
     record { machine = refl; steps_are = refl },
   );
-  makes = makes_none g.N.BootName.frames c.args.machine.now;
+  makes = makes_none g.N.BootName.table c.args.machine.now;
 }
 
 pub returns-in_default-clause-fills : goal.returns-in_default-clause-fills
@@ -43,4 +43,4 @@ returns-clause-lacks g c _ = record {
 }
 
 pub returns-clause-drained : goal.returns-clause-drained
-returns-clause-drained g c _ = subst (λ (s : State). HasDrained (s.parts c.args.cpu.now.number)) (sym c.in-Err.ensures.refused.left) c.requires.drained
+returns-clause-drained g c _ = subst (λ (s : State). HasDrained (s.parts c.args.cpu.now.number)) (sym c.in-Err.ensures.refused.left) c.requires.may_fill.drained

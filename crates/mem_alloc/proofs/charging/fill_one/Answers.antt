@@ -12,7 +12,7 @@ use Rattle.mem_alloc.proofs.charging.fill_one.Goals as goal
 
 pub tries-init : goal.tries-init
 tries-init g c = (
-  so_far_none g.N.BootName.frames c.args.group 1 c.args.cpu.now c.args.machine.now c.reclaim_high.new.machine c.reclaim_high.ensures.high
+  so_far_none g.N.BootName.table c.args.group 1 c.args.cpu.now c.args.machine.now c.reclaim_high.new.machine c.reclaim_high.ensures.high
       c.requires.may_charge.alive,
   subst HasDrained (sym (c.reclaim_high.ensures.keeps.stocks c.args.cpu.now.number)) c.requires.drained,
 )
@@ -25,7 +25,7 @@ fill_stock-requires-clause-pages g c = (omega arith, omega arith)
 
 pub returns-in_default-clause-charges : goal.returns-in_default-clause-charges
 returns-in_default-clause-charges g c =
-    so_far_fills g.N.BootName.frames c.args.group 1 c.args.cpu.now c.args.machine.now c.tries.machine c.tries.invariant.0
+    so_far_fills g.N.BootName.table c.args.group 1 c.args.cpu.now c.args.machine.now c.tries.machine c.tries.invariant.0
     c.fill_stock.new.self c.in_default.ensures.fills c.in_default.ensures.steps
 
 pub make_room-requires-clause-held : goal.make_room-requires-clause-held
@@ -38,15 +38,15 @@ make_room-requires-clause-there g c =
 
 pub tries-smaller : goal.tries-smaller
 tries-smaller g c =
-    usages_fall g.N.BootName.frames c.tries.machine c.make_room.new.machine c.in-Err.over.group 1
-    (lowers_both g.N.BootName.frames _ _ _
-    (subst (λ (y : KnownMachine). Lowers g.N.BootName.frames c.tries.machine y) (sym c.in-Err.ensures.refused.machine)
-    (run_lowers g.N.BootName.frames c.tries.machine c.fill_stock.new.self.run))
-    (relieving_lowers g.N.BootName.frames c.args.group c.in-Err.over.group 1 c.fill_stock.new.self c.make_room.new.machine c.make_room.ensures.relieves)) c.make_room.ensures.below c.in-Err.ensures.over.over c.in_ok-make_room.ensures.room.room
+    usages_fall g.N.BootName.table c.tries.machine c.make_room.new.machine c.in-Err.over.group 1
+    (lowers_both g.N.BootName.table _ _ _
+    (subst (λ (y : KnownMachine). Lowers g.N.BootName.table c.tries.machine y) (sym c.in-Err.ensures.refused.machine)
+    (run_lowers g.N.BootName.table c.tries.machine c.fill_stock.new.self.run))
+    (relieving_lowers g.N.BootName.table c.args.group c.in-Err.over.group 1 c.fill_stock.new.self c.make_room.new.machine c.make_room.ensures.relieves)) c.make_room.ensures.below c.in-Err.ensures.over.over c.in_ok-make_room.ensures.room.room
 
 pub tries-preserved : goal.tries-preserved
 tries-preserved g c =
-    let t = g.N.BootName.frames in
+    let t = g.N.BootName.table in
     let refused = c.in-Err.ensures.refused in
     let relieves = c.make_room.ensures.relieves in
     let still : IsDrained t c.fill_stock.new.self c.args.cpu.now.number =
@@ -63,9 +63,9 @@ returns-in_err-make_room-clause-charges g c =
     let r = c.from_residual.result in
     let x = c.in_err-make_room.field-0.0 in
     let is : IfErr r (λ e. e ≡ x) = search rules in
-    refuses_one g.N.BootName.frames c.args.group r x c.args.machine.now c.args.cpu.now c.make_room.new.machine
+    refuses_one g.N.BootName.table c.args.group r x c.args.machine.now c.args.cpu.now c.make_room.new.machine
     c.args.cpu.now (answer_is r x c.from_residual.ensures.0 is) refl
-    (so_far_over g.N.BootName.frames c.args.group 1 c.args.cpu.now c.args.machine.now c.tries.machine c.tries.invariant.0 c.fill_stock.new.self c.tries.machine
+    (so_far_over g.N.BootName.table c.args.group 1 c.args.cpu.now c.args.machine.now c.tries.machine c.tries.invariant.0 c.fill_stock.new.self c.tries.machine
     c.make_room.new.machine c.args.cpu.now c.args.cpu.now c.in-Err.over.group c.in-Err.ensures.refused.machine refl refl c.in-Err.ensures.over refl
     c.in-Err.ensures.refused.steps c.make_room.ensures.relieves x c.in_err-make_room.ensures.room)
 

@@ -4,7 +4,7 @@ use Rattle.mem_alloc.proofs.Making.{RoomSoFar}
 use Rattle.mem_alloc.proofs.charging.fill_one.Given as goal
 
 abbrev pub invariant-tries : goal.invariant-tries
-invariant-tries g l = RoomSoFar g.N.BootName.frames l.group 1 l.fn.cpu l.fn.machine l.machine × IsDrained g.N.BootName.frames l.machine l.fn.cpu.number
+invariant-tries g l = RoomSoFar g.N.BootName.table l.group 1 l.fn.cpu l.fn.machine l.machine × IsDrained g.N.BootName.table l.machine l.fn.cpu.number
 
 abbrev pub decreases-tries : goal.decreases-tries
 decreases-tries g l = all_usages l.machine

@@ -1,8 +1,8 @@
 use Rattle.std.proofs.Common.{◌≡◌, ℕ, ◌+◌, ◌-◌, ◌<◌, sym, ap, ◌∙◌, arith}
 use Rattle.std.proofs.lemmas.Bool.{lt-ltb, ltb-true}
-use Rattle.frame_word.specs.Seats.{KnownTable}
-use Rattle.stock_word.specs.declared.view.Stock.TheVariants.{HeldBy}
+use Rattle.stock_word.specs.declared.stock.Stock.TheVariants.{HeldBy}
 use Rattle.stock_word.specs.Stock.{stock_pages_of}
+use Rattle.boot_words.specs.Tables.{KnownTable}
 use Rattle.mem_machine.specs.{KnownMachine, HoldsPage, stock_now}
 use Rattle.mem_alloc.proofs.charging.holds_page.Goals as goal
 
@@ -18,7 +18,7 @@ some_pages t m cpu g own pages is page = let e : pages ≡ page.0 + 1 = ap stock
 
 pub returns-then-own-number-clause-holds : goal.returns-then-own-number-clause-holds
 returns-then-own-number-clause-holds g c =
-    let t = g.N.BootName.frames in
+    let t = g.N.BootName.table in
     let m = c.args.machine.now in
     let cpu = c.args.cpu.now.number in
     let own = c.in-HeldBy.own in

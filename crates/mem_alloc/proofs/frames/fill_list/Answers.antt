@@ -8,7 +8,7 @@ use Rattle.mem_alloc.proofs.frames.fill_list.Goals as goal
 
 pub returns-then-refill-gt0-clause-fills : goal.returns-then-refill-gt0-clause-fills
 returns-then-refill-gt0-clause-fills g c =
-    let t = g.N.BootName.frames in
+    let t = g.N.BootName.table in
     let done = c.refill.ensures in
     let many = c.if-refill-gt0.true in record {
       steps = refill_steps c.args.cpu.now.number done.refills.frames;
@@ -23,7 +23,7 @@ returns-then-refill-gt0-clause-fills g c =
 pub returns-then-refill-gt0-clause-page : goal.returns-then-refill-gt0-clause-page
 returns-then-refill-gt0-clause-page g c =
     let done = c.refill.ensures.refills in
-    (c.requires.page.0, lent_stock g.N.BootName.frames done.frames _ _ _ _ c.requires.visit.held done.steps done.lends ∙ c.requires.page.1)
+    (c.requires.page.0, lent_stock g.N.BootName.table done.frames _ _ _ _ c.requires.visit.held done.steps done.lends ∙ c.requires.page.1)
 
 pub returns-then-refill-gt0-clause-front : goal.returns-then-refill-gt0-clause-front
 returns-then-refill-gt0-clause-front g c =
@@ -35,7 +35,7 @@ returns-then-refill-gt0-clause-front g c =
 
 pub returns-then-refill_in_rounds : goal.returns-then-refill_in_rounds
 returns-then-refill_in_rounds g c =
-    let t = g.N.BootName.frames in
+    let t = g.N.BootName.table in
     let done = c.refill.ensures in
     let first = lent_none t c.refill.result c.args.sizes.batch c.args.machine.now c.refill.new.self c.args.cpu.now c.refill.new.cpu
     done.refills c.if-refill-gt0.false done.fewer_only_at_the_end c.requires.sizes.batch_low in
@@ -60,7 +60,7 @@ returns-then-refill_in_rounds g c =
 
 pub returns-clause-fills : goal.returns-clause-fills
 returns-clause-fills g c =
-    let t = g.N.BootName.frames in
+    let t = g.N.BootName.table in
     let done = c.refill.ensures in
     let first = lent_none t c.refill.result c.args.sizes.batch c.args.machine.now c.refill.new.self c.args.cpu.now c.refill.new.cpu
     done.refills c.if-refill-gt0.false done.fewer_only_at_the_end c.requires.sizes.batch_low in
@@ -78,7 +78,7 @@ returns-then-list_len-gt0-clause-fills g c =
         is = omega (arith, many, c.list_len.ensures.count);
         does = record { machine = refl; cpu = refl; steps_are = refl };
       });
-      makes = makes_none g.N.BootName.frames c.args.machine.now;
+      makes = makes_none g.N.BootName.table c.args.machine.now;
     }
 
 pub refill_in_rounds-requires-clause-none_fresh : goal.refill_in_rounds-requires-clause-none_fresh
@@ -88,6 +88,6 @@ refill_in_rounds-requires-clause-none_fresh g c =
 -- the CPU that holds the lock is one of the boot
 pub drain_stock-requires-clause-cpu : goal.drain_stock-requires-clause-cpu
 drain_stock-requires-clause-cpu g c =
-    let t = g.N.BootName.frames in
+    let t = g.N.BootName.table in
     subst (IsCpuOf t) (sym c.number-cpu_number.ensures.number)
     (number_range t c.refill_in_rounds.new.machine c.refill_in_rounds.new.cpu c.if-refill_in_rounds.ensures.visit)

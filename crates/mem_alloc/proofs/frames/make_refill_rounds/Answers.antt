@@ -1,5 +1,5 @@
 use Rattle.std.proofs.Common.{refl, ap, ◌∙◌, arith}
-use Rattle.cpu_part.specs.Cpus.{KnownCpu}
+use Rattle.cpu_part.specs.Cpus.{KnownCpuLists}
 use Rattle.mem_machine.specs.Steps.{refill_steps}
 use Rattle.mem_alloc.specs.Frames.{LendsBatch, LendsNoFrame}
 use Rattle.mem_alloc.proofs.Rounding.{rounds_none, rounds_done, rounds_succeed, rounds_end, rounds_more}
@@ -8,7 +8,7 @@ use Rattle.mem_alloc.proofs.frames.make_refill_rounds.Goals as goal
 
 pub loop-round-init : goal.loop-round-init
 loop-round-init g c =
-    (rounds_none g.N.BootName.frames 1 LendsNoFrame (λ _. LendsBatch c.args.batch) c.args.machine.now c.args.cpu.now, refl)
+    (rounds_none g.N.BootName.table 1 LendsNoFrame (λ _. LendsBatch c.args.batch) c.args.machine.now c.args.cpu.now, refl)
 
 pub reclaim_anywhere-freed-requires : goal.reclaim_anywhere-freed-requires
 reclaim_anywhere-freed-requires g c =
@@ -20,7 +20,7 @@ refill-requires-clause-visit g c =
 
 pub returns-then-refill-gt0-clause-refills : goal.returns-then-refill-gt0-clause-refills
 returns-then-refill-gt0-clause-refills g c =
-    let t = g.N.BootName.frames in
+    let t = g.N.BootName.table in
     let done = c.refill.ensures in
     let many = c.if-refill-gt0.true in
     rounds_succeed t 1 LendsNoFrame (λ _. LendsBatch c.args.batch) c.args.machine.now c.args.cpu.now c.loop-round.round
@@ -32,7 +32,7 @@ returns-then-refill-gt0-clause-refills g c =
 
 pub returns-then-freed-eq0-clause-refills : goal.returns-then-freed-eq0-clause-refills
 returns-then-freed-eq0-clause-refills g c =
-    let t = g.N.BootName.frames in
+    let t = g.N.BootName.table in
     let done = c.refill.ensures in
     let none = lent_none t c.refill.result c.args.batch _ _ _ _ done.refills c.if-refill-gt0.false done.fewer_only_at_the_end
     c.requires.some in
@@ -44,7 +44,7 @@ returns-then-freed-eq0-clause-refills g c =
 
 pub loop-round-preserved : goal.loop-round-preserved
 loop-round-preserved g c =
-    let t = g.N.BootName.frames in
+    let t = g.N.BootName.table in
     let done = c.refill.ensures in
     let none = lent_none t c.refill.result c.args.batch _ _ _ _ done.refills c.if-refill-gt0.false done.fewer_only_at_the_end
     c.requires.some in (
@@ -57,12 +57,12 @@ loop-round-preserved g c =
       lent_stock t done.refills.frames _ _ _ _ (c.reclaim_anywhere-freed.ensures.keeps.visit c.loop-round.cpu (c.loop-round.invariant.0.visit c.requires.visit)).held
           done.refills.steps done.refills.lends
           ∙ spared_stock t _ _ c.loop-round.cpu (c.loop-round.invariant.0.visit c.requires.visit) c.reclaim_anywhere-freed.ensures.keeps
-          (ap (λ (e : KnownCpu). e.fresh) c.loop-round.invariant.0.spares.cpu ∙ c.requires.none_fresh) ∙ c.loop-round.invariant.1,
+          (ap (λ (e : KnownCpuLists). e.fresh) c.loop-round.invariant.0.spares.cpu ∙ c.requires.none_fresh) ∙ c.loop-round.invariant.1,
     )
 
 pub returns-clause-refills : goal.returns-clause-refills
 returns-clause-refills g c =
-    rounds_done g.N.BootName.frames 1 LendsNoFrame (λ _. LendsBatch c.args.batch) c.args.machine.now c.args.cpu.now
+    rounds_done g.N.BootName.table 1 LendsNoFrame (λ _. LendsBatch c.args.batch) c.args.machine.now c.args.cpu.now
     c.loop-round.round c.loop-round.machine c.loop-round.cpu c.loop-round.invariant.0 c.loop-round-test.false
 
 pub returns-clause-visit : goal.returns-clause-visit
@@ -70,22 +70,22 @@ returns-clause-visit g c = c.loop-round.invariant.0.visit c.requires.visit
 
 pub returns-then-refill-gt0-clause-stock : goal.returns-then-refill-gt0-clause-stock
 returns-then-refill-gt0-clause-stock g c =
-    let t = g.N.BootName.frames in
+    let t = g.N.BootName.table in
     let done = c.refill.ensures.refills in
     let visit = c.loop-round.invariant.0.visit c.requires.visit in
     let keeps = c.reclaim_anywhere-freed.ensures.keeps in
     lent_stock t done.frames _ _ _ _ (keeps.visit c.loop-round.cpu visit).held done.steps done.lends
-    ∙ spared_stock t _ _ c.loop-round.cpu visit keeps (ap (λ (e : KnownCpu). e.fresh) c.loop-round.invariant.0.spares.cpu ∙ c.requires.none_fresh)
+    ∙ spared_stock t _ _ c.loop-round.cpu visit keeps (ap (λ (e : KnownCpuLists). e.fresh) c.loop-round.invariant.0.spares.cpu ∙ c.requires.none_fresh)
     ∙ c.loop-round.invariant.1
 
 pub returns-then-freed-eq0-clause-stock : goal.returns-then-freed-eq0-clause-stock
 returns-then-freed-eq0-clause-stock g c =
-    let t = g.N.BootName.frames in
+    let t = g.N.BootName.table in
     let done = c.refill.ensures.refills in
     let visit = c.loop-round.invariant.0.visit c.requires.visit in
     let keeps = c.reclaim_anywhere-freed.ensures.keeps in
     lent_stock t done.frames _ _ _ _ (keeps.visit c.loop-round.cpu visit).held done.steps done.lends
-    ∙ spared_stock t _ _ c.loop-round.cpu visit keeps (ap (λ (e : KnownCpu). e.fresh) c.loop-round.invariant.0.spares.cpu ∙ c.requires.none_fresh)
+    ∙ spared_stock t _ _ c.loop-round.cpu visit keeps (ap (λ (e : KnownCpuLists). e.fresh) c.loop-round.invariant.0.spares.cpu ∙ c.requires.none_fresh)
     ∙ c.loop-round.invariant.1
 
 pub returns-clause-stock : goal.returns-clause-stock

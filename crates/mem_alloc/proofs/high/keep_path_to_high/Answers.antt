@@ -7,28 +7,28 @@ use Rattle.mem_alloc.proofs.HighRooms.{HighSoFar, high_begins, high_ends, high_g
 use Rattle.mem_alloc.proofs.high.keep_path_to_high.Goals as goal
 
 pub loop-next-init : goal.loop-next-init
-loop-next-init g c = high_begins g.N.BootName.frames c.args.group c.args.need c.args.machine.now c.requires.there
+loop-next-init g c = high_begins g.N.BootName.table c.args.group c.args.need c.args.machine.now c.requires.there
 
 pub parent-next-requires : goal.parent-next-requires
 parent-next-requires g c =
-    let so = subst (λ (o : Option ℕ). HighSoFar g.N.BootName.frames c.args.group c.args.need c.args.machine.now o c.loop-next.machine) c.in-Some.is c.loop-next.invariant in
+    let so = subst (λ (o : Option ℕ). HighSoFar g.N.BootName.table c.args.group c.args.need c.args.machine.now o c.loop-next.machine) c.in-Some.is c.loop-next.invariant in
     let groups : c.tree-tree.result.now ≡ c.args.machine.now.ledger.groups =
     c.tree-tree.ensures.tree ∙ ap (λ (l : Ledger). l.groups) c.charges.ensures ∙ so.keeps.groups in
     ap (λ (l : List Group). has_group l c.in-Some.above) groups ∙ so.there
 
 pub keep_to_high-requires-clause-there : goal.keep_to_high-requires-clause-there
 keep_to_high-requires-clause-there g c =
-    let so = subst (λ (o : Option ℕ). HighSoFar g.N.BootName.frames c.args.group c.args.need c.args.machine.now o c.loop-next.machine) c.in-Some.is c.loop-next.invariant in
+    let so = subst (λ (o : Option ℕ). HighSoFar g.N.BootName.table c.args.group c.args.need c.args.machine.now o c.loop-next.machine) c.in-Some.is c.loop-next.invariant in
     ap (λ (l : List Group). has_group l c.in-Some.above) so.keeps.groups ∙ so.there
 
 pub keep_to_high-requires-clause-held : goal.keep_to_high-requires-clause-held
 keep_to_high-requires-clause-held g c =
     let so = c.loop-next.invariant in
-    held_after g.N.BootName.frames c.args.machine.now so.steps c.loop-next.machine so.runs c.requires.held
+    held_after g.N.BootName.table c.args.machine.now so.steps c.loop-next.machine so.runs c.requires.held
 
 pub loop-next-preserved : goal.loop-next-preserved
 loop-next-preserved g c =
-    let t = g.N.BootName.frames in
+    let t = g.N.BootName.table in
     let m = c.args.machine.now in
     let so = subst (λ (o : Option ℕ). HighSoFar t c.args.group c.args.need m o c.loop-next.machine) c.in-Some.is c.loop-next.invariant in
     let same : c.charges.result.now.groups ≡ m.ledger.groups = ap (λ (l : Ledger). l.groups) c.charges.ensures ∙ so.keeps.groups in
@@ -48,7 +48,7 @@ loop-next-smaller g c =
 
 pub returns-clause-high : goal.returns-clause-high
 returns-clause-high g c =
-    let t = g.N.BootName.frames in
+    let t = g.N.BootName.table in
     high_ends t c.args.group c.args.need c.args.machine.now c.loop-next.machine
     (subst (λ (o : Option ℕ). HighSoFar t c.args.group c.args.need c.args.machine.now o c.loop-next.machine) c.in_default.is c.loop-next.invariant)
 

@@ -9,10 +9,10 @@ use Rattle.mem_alloc.proofs.high.reclaim_high.Goals as goal
 
 pub returns-then-path_has_high_room-clause-high : goal.returns-then-path_has_high_room-clause-high
 returns-then-path_has_high_room-clause-high g c =
-    path_stays g.N.BootName.frames c.args.group c.args.need c.args.machine.now
+    path_stays g.N.BootName.table c.args.group c.args.need c.args.machine.now
     (subst (λ (l : Ledger). AreGroups l.groups) c.charges-charges.ensures c.tree-tree.ensures.legal.groups) c.requires.there
     (subst (λ (l : Ledger). PathHasHighRoom l c.args.group c.args.need) c.charges-charges.ensures
     (c.path_has_high_room.ensures.0 c.if-path_has_high_room.true))
 
 pub returns-then-path_has_high_room-clause-keeps : goal.returns-then-path_has_high_room-clause-keeps
-returns-then-path_has_high_room-clause-keeps g c = keeps_none g.N.BootName.frames c.args.machine.now
+returns-then-path_has_high_room-clause-keeps g c = keeps_none g.N.BootName.table c.args.machine.now

@@ -11,29 +11,29 @@ use Rattle.mem_alloc.proofs.kills.kill_for.Goals as goal
 
 pub kills-init : goal.kills-init
 kills-init g c =
-    so_far_nobody c.args.requester g.N.BootName.frames c.args.limited c.args.pages c.args.machine.now c.note_event.new.self c.note.new.self
+    so_far_nobody c.args.requester g.N.BootName.table c.args.limited c.args.pages c.args.machine.now c.note_event.new.self c.note.new.self
     c.note_event.ensures.machine c.note_event.ensures.steps c.note_event.ensures.visit c.note.ensures
 
 pub needs_room-requires : goal.needs_room-requires
 needs_room-requires g c =
-    so_far_there c.args.requester g.N.BootName.frames c.args.limited c.args.pages c.args.machine.now c.kills.machine
+    so_far_there c.args.requester g.N.BootName.table c.args.limited c.args.pages c.args.machine.now c.kills.machine
     c.kills.invariant c.requires.there
 
 pub returns-then-not-needs_room-clause-kills : goal.returns-then-not-needs_room-clause-kills
 returns-then-not-needs_room-clause-kills g c =
     let over : has_room_at c.args.machine.now.ledger c.args.limited c.args.pages ≡ false =
     ap (λ (l : Ledger). has_room_at l c.args.limited c.args.pages) (sym c.charges.ensures) ∙ sym c.has_room_at.ensures ∙ c.if-has_room_at.false in
-    kills_end c.args.requester g.N.BootName.frames c.args.limited c.args.pages c.args.machine.now c.kills.machine over c.kills.invariant
+    kills_end c.args.requester g.N.BootName.table c.args.limited c.args.pages c.args.machine.now c.kills.machine over c.kills.invariant
     (λ needs_room. absurd (false≢true (sym c.if-not-needs_room.true ∙ c.needs_room.ensures.1 needs_room)))
 
 pub kill-requires-clause-there : goal.kill-requires-clause-there
 kill-requires-clause-there g c =
-    so_far_there c.args.requester g.N.BootName.frames c.args.limited c.args.pages c.args.machine.now c.kills.machine
+    so_far_there c.args.requester g.N.BootName.table c.args.limited c.args.pages c.args.machine.now c.kills.machine
     c.kills.invariant c.requires.there
 
 pub kill-requires-clause-held : goal.kill-requires-clause-held
 kill-requires-clause-held g c =
-    so_far_held c.args.requester g.N.BootName.frames c.args.limited c.args.pages c.args.machine.now c.kills.machine c.kills.invariant c.requires.held
+    so_far_held c.args.requester g.N.BootName.table c.args.limited c.args.pages c.args.machine.now c.kills.machine c.kills.invariant c.requires.held
 
 pub returns-then-not-needs_room-clause-visit : goal.returns-then-not-needs_room-clause-visit
 returns-then-not-needs_room-clause-visit g c = c.kills.invariant.visit
@@ -43,7 +43,7 @@ returns-in_default-clause-visit g c p v = c.kill.ensures.keeps.visit p (c.kills.
 
 pub returns-in_default-clause-kills : goal.returns-in_default-clause-kills
 returns-in_default-clause-kills g c =
-    let t = g.N.BootName.frames in
+    let t = g.N.BootName.table in
     let over : has_room_at c.args.machine.now.ledger c.args.limited c.args.pages ≡ false =
     ap (λ (l : Ledger). has_room_at l c.args.limited c.args.pages) (sym c.charges.ensures) ∙ sym c.has_room_at.ensures ∙ c.if-has_room_at.false in
     let none = subst (λ (o : Option Killed). IsVictim c.kills.machine c.args.limited (victim_of o)) c.in_default.is c.kill.ensures.victim in
@@ -54,7 +54,7 @@ returns-in_default-clause-kills g c =
 
 pub kills-smaller : goal.kills-smaller
 kills-smaller g c =
-    let t = g.N.BootName.frames in
+    let t = g.N.BootName.table in
     let x = c.kills.machine in
     let n = c.kill.new.machine in
     let killed = c.in-Some._killed in
@@ -68,7 +68,7 @@ kills-smaller g c =
 
 pub kills-preserved : goal.kills-preserved
 kills-preserved g c =
-    let t = g.N.BootName.frames in
+    let t = g.N.BootName.table in
     let x = c.kills.machine in
     let n = c.kill.new.machine in
     let killed = c.in-Some._killed in
@@ -84,7 +84,7 @@ kills-preserved g c =
 
 pub returns-then-has_room_at : goal.returns-then-has_room_at
 returns-then-has_room_at g c = record {
-  kills = enough_room c.args.requester g.N.BootName.frames c.args.limited c.args.pages c.args.machine.now
+  kills = enough_room c.args.requester g.N.BootName.table c.args.limited c.args.pages c.args.machine.now
       (ap (λ (l : Ledger). has_room_at l c.args.limited c.args.pages) (sym c.charges.ensures) ∙ sym c.has_room_at.ensures ∙ c.if-has_room_at.true);
   visit = λ p v. v;
 }

@@ -5,7 +5,7 @@ use Rattle.mem_alloc.proofs.reclaims.reclaim_anywhere.Goals as goal
 
 pub returns-clause-reclaims : goal.returns-clause-reclaims
 returns-clause-reclaims g c =
-    subst (λ (h : ℕ). FreesBySteps g.N.BootName.frames c.reclaim_round.result.pages c.args.machine.now c.reclaim_round.new.machine
+    subst (λ (h : ℕ). FreesBySteps g.N.BootName.table c.reclaim_round.result.pages c.args.machine.now c.reclaim_round.new.machine
     (ReclaimsRound h c.args.number c.args.want)) c.root.ensures c.reclaim_round.ensures.makes
 
 -- a round that gave fewer pages than were wanted ended its second pass

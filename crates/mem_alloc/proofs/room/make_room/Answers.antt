@@ -12,16 +12,16 @@ use Rattle.mem_alloc.proofs.room.make_room.Goals as goal
 
 pub note_event-requires-clause-held : goal.note_event-requires-clause-held
 note_event-requires-clause-held g c =
-    limit_held g.N.BootName.frames c.args.limited c.args.pages c.args.machine.now c.note_limit.new.machine c.note_limit.ensures c.requires.held
+    limit_held g.N.BootName.table c.args.limited c.args.pages c.args.machine.now c.note_limit.new.machine c.note_limit.ensures c.requires.held
 
 pub drain_stocks-requires-clause-held : goal.drain_stocks-requires-clause-held
 drain_stocks-requires-clause-held g c =
-    held_after g.N.BootName.frames c.note_limit.new.machine (note_max_steps c.args.limited) c.note_event.new.self c.note_event.ensures.steps
-    (limit_held g.N.BootName.frames c.args.limited c.args.pages c.args.machine.now c.note_limit.new.machine c.note_limit.ensures c.requires.held)
+    held_after g.N.BootName.table c.note_limit.new.machine (note_max_steps c.args.limited) c.note_event.new.self c.note_event.ensures.steps
+    (limit_held g.N.BootName.table c.args.limited c.args.pages c.args.machine.now c.note_limit.new.machine c.note_limit.ensures c.requires.held)
 
 pub reclaim_for-requires-clause-held : goal.reclaim_for-requires-clause-held
 reclaim_for-requires-clause-held g c =
-    let t = g.N.BootName.frames in
+    let t = g.N.BootName.table in
     let drains = c.drain_stocks.ensures.drains in
     held_after t c.note_event.new.self (drain_stocks_steps drains.drains) c.drain_stocks.new.self drains.steps
     (held_after t c.note_limit.new.machine (note_max_steps c.args.limited) c.note_event.new.self c.note_event.ensures.steps
@@ -29,7 +29,7 @@ reclaim_for-requires-clause-held g c =
 
 pub kill_for_few_pages-requires-clause-held : goal.kill_for_few_pages-requires-clause-held
 kill_for_few_pages-requires-clause-held g c =
-    let t = g.N.BootName.frames in
+    let t = g.N.BootName.table in
     let drains = c.drain_stocks.ensures.drains in
     let reclaims = c.reclaim_for.ensures.reclaims in
     held_after t c.drain_stocks.new.self reclaims.steps c.reclaim_for.new.machine reclaims.makes
@@ -40,62 +40,62 @@ kill_for_few_pages-requires-clause-held g c =
 pub reclaim_for-requires-clause-there : goal.reclaim_for-requires-clause-there
 reclaim_for-requires-clause-there g c =
     let sub = c.drain_stocks.ensures.drains in
-    let noted : Lowers g.N.BootName.frames c.args.machine.now c.note_event.new.self =
-    subst (λ (y : KnownMachine). Lowers g.N.BootName.frames c.args.machine.now y)
+    let noted : Lowers g.N.BootName.table c.args.machine.now c.note_event.new.self =
+    subst (λ (y : KnownMachine). Lowers g.N.BootName.table c.args.machine.now y)
     (sym (c.note_event.ensures.machine ∙ ap (λ (y : KnownMachine). record y { ledger = with_max_noted y.ledger c.args.limited; run = c.note_event.new.self.run }) c.note_limit.ensures))
-    (note_lowers g.N.BootName.frames c.args.machine.now c.args.limited c.args.pages c.note_event.new.self.run) in
-    let lowers = lowers_both g.N.BootName.frames _ _ _ noted (all_lower g.N.BootName.frames c.args.limited g.N.BootName.frames.cpus _ _ sub.drains sub.all) in
-    lowered_there g.N.BootName.frames _ _ c.args.limited lowers c.requires.there
+    (note_lowers g.N.BootName.table c.args.machine.now c.args.limited c.args.pages c.note_event.new.self.run) in
+    let lowers = lowers_both g.N.BootName.table _ _ _ noted (all_lower g.N.BootName.table c.args.limited g.N.BootName.table.cpus _ _ sub.drains sub.all) in
+    lowered_there g.N.BootName.table _ _ c.args.limited lowers c.requires.there
 
 pub kill_for_few_pages-requires-clause-there : goal.kill_for_few_pages-requires-clause-there
 kill_for_few_pages-requires-clause-there g c =
     let sub = c.drain_stocks.ensures.drains in
-    let noted : Lowers g.N.BootName.frames c.args.machine.now c.note_event.new.self =
-    subst (λ (y : KnownMachine). Lowers g.N.BootName.frames c.args.machine.now y)
+    let noted : Lowers g.N.BootName.table c.args.machine.now c.note_event.new.self =
+    subst (λ (y : KnownMachine). Lowers g.N.BootName.table c.args.machine.now y)
     (sym (c.note_event.ensures.machine ∙ ap (λ (y : KnownMachine). record y { ledger = with_max_noted y.ledger c.args.limited; run = c.note_event.new.self.run }) c.note_limit.ensures))
-    (note_lowers g.N.BootName.frames c.args.machine.now c.args.limited c.args.pages c.note_event.new.self.run) in
-    let lowers = lowers_both g.N.BootName.frames _ _ _ noted (all_lower g.N.BootName.frames c.args.limited g.N.BootName.frames.cpus _ _ sub.drains sub.all) in
+    (note_lowers g.N.BootName.table c.args.machine.now c.args.limited c.args.pages c.note_event.new.self.run) in
+    let lowers = lowers_both g.N.BootName.table _ _ _ noted (all_lower g.N.BootName.table c.args.limited g.N.BootName.table.cpus _ _ sub.drains sub.all) in
     ap (λ (x : List Group). has_group x c.args.limited) c.reclaim_for.ensures.reclaims.does.keeps.groups
-    ∙ lowered_there g.N.BootName.frames _ _ c.args.limited lowers c.requires.there
+    ∙ lowered_there g.N.BootName.table _ _ c.args.limited lowers c.requires.there
 
 pub has_room_at-requires : goal.has_room_at-requires
 has_room_at-requires g c =
     let sub = c.drain_stocks.ensures.drains in
-    let noted : Lowers g.N.BootName.frames c.args.machine.now c.note_event.new.self =
-    subst (λ (y : KnownMachine). Lowers g.N.BootName.frames c.args.machine.now y)
+    let noted : Lowers g.N.BootName.table c.args.machine.now c.note_event.new.self =
+    subst (λ (y : KnownMachine). Lowers g.N.BootName.table c.args.machine.now y)
     (sym (c.note_event.ensures.machine ∙ ap (λ (y : KnownMachine). record y { ledger = with_max_noted y.ledger c.args.limited; run = c.note_event.new.self.run }) c.note_limit.ensures))
-    (note_lowers g.N.BootName.frames c.args.machine.now c.args.limited c.args.pages c.note_event.new.self.run) in
-    let lowers = lowers_both g.N.BootName.frames _ _ _ noted (all_lower g.N.BootName.frames c.args.limited g.N.BootName.frames.cpus _ _ sub.drains sub.all) in
+    (note_lowers g.N.BootName.table c.args.machine.now c.args.limited c.args.pages c.note_event.new.self.run) in
+    let lowers = lowers_both g.N.BootName.table _ _ _ noted (all_lower g.N.BootName.table c.args.limited g.N.BootName.table.cpus _ _ sub.drains sub.all) in
     let there : has_group c.reclaim_for.new.machine.ledger.groups c.args.limited ≡ true =
     ap (λ (x : List Group). has_group x c.args.limited) c.reclaim_for.ensures.reclaims.does.keeps.groups
-    ∙ lowered_there g.N.BootName.frames _ _ c.args.limited lowers c.requires.there in
+    ∙ lowered_there g.N.BootName.table _ _ c.args.limited lowers c.requires.there in
     let killed = c.kill_for_few_pages.ensures.kills in
     subst (λ (l : Ledger). has_group l.groups c.args.limited ≡ true) (sym c.charges.ensures)
-    (lowered_there g.N.BootName.frames _ _ c.args.limited
-    (few_lower g.N.BootName.frames c.args.requester c.args.limited c.args.pages c.reclaim_for.new.machine c.kill_for_few_pages.new.machine killed.steps
+    (lowered_there g.N.BootName.table _ _ c.args.limited
+    (few_lower g.N.BootName.table c.args.requester c.args.limited c.args.pages c.reclaim_for.new.machine c.kill_for_few_pages.new.machine killed.steps
     killed.does) there)
 
 pub returns-then-is_killed-clause-relieves : goal.returns-then-is_killed-clause-relieves
 returns-then-is_killed-clause-relieves g c =
-    relieves_by g.N.BootName.frames c.args.requester c.args.limited c.args.pages c.args.machine.now c.drain_stocks.new.self c.reclaim_for.new.machine
+    relieves_by g.N.BootName.table c.args.requester c.args.limited c.args.pages c.args.machine.now c.drain_stocks.new.self c.reclaim_for.new.machine
     c.kill_for_few_pages.new.machine
-    (clears_by g.N.BootName.frames c.args.limited c.args.pages c.drain_stocks.result c.args.machine.now c.note_limit.new.machine c.note_event.new.self
+    (clears_by g.N.BootName.table c.args.limited c.args.pages c.drain_stocks.result c.args.machine.now c.note_limit.new.machine c.note_event.new.self
     c.drain_stocks.new.self c.note_limit.ensures c.note_event.ensures.machine c.note_event.ensures.steps c.drain_stocks.ensures.drains c.drain_stocks.ensures.drained)
     c.reclaim_for.ensures.reclaims c.kill_for_few_pages.ensures.kills
 
 pub returns-then-has_room_at-clause-relieves : goal.returns-then-has_room_at-clause-relieves
 returns-then-has_room_at-clause-relieves g c =
-    relieves_by g.N.BootName.frames c.args.requester c.args.limited c.args.pages c.args.machine.now c.drain_stocks.new.self c.reclaim_for.new.machine
+    relieves_by g.N.BootName.table c.args.requester c.args.limited c.args.pages c.args.machine.now c.drain_stocks.new.self c.reclaim_for.new.machine
     c.kill_for_few_pages.new.machine
-    (clears_by g.N.BootName.frames c.args.limited c.args.pages c.drain_stocks.result c.args.machine.now c.note_limit.new.machine c.note_event.new.self
+    (clears_by g.N.BootName.table c.args.limited c.args.pages c.drain_stocks.result c.args.machine.now c.note_limit.new.machine c.note_event.new.self
     c.drain_stocks.new.self c.note_limit.ensures c.note_event.ensures.machine c.note_event.ensures.steps c.drain_stocks.ensures.drains c.drain_stocks.ensures.drained)
     c.reclaim_for.ensures.reclaims c.kill_for_few_pages.ensures.kills
 
 pub returns-else-has_room_at-clause-relieves : goal.returns-else-has_room_at-clause-relieves
 returns-else-has_room_at-clause-relieves g c =
-    relieves_by g.N.BootName.frames c.args.requester c.args.limited c.args.pages c.args.machine.now c.drain_stocks.new.self c.reclaim_for.new.machine
+    relieves_by g.N.BootName.table c.args.requester c.args.limited c.args.pages c.args.machine.now c.drain_stocks.new.self c.reclaim_for.new.machine
     c.kill_for_few_pages.new.machine
-    (clears_by g.N.BootName.frames c.args.limited c.args.pages c.drain_stocks.result c.args.machine.now c.note_limit.new.machine c.note_event.new.self
+    (clears_by g.N.BootName.table c.args.limited c.args.pages c.drain_stocks.result c.args.machine.now c.note_limit.new.machine c.note_event.new.self
     c.drain_stocks.new.self c.note_limit.ensures c.note_event.ensures.machine c.note_event.ensures.steps c.drain_stocks.ensures.drains c.drain_stocks.ensures.drained)
     c.reclaim_for.ensures.reclaims c.kill_for_few_pages.ensures.kills
 
@@ -120,14 +120,14 @@ returns-else-has_room_at-clause-room g c = (
 pub returns-then-is_killed-clause-visit : goal.returns-then-is_killed-clause-visit
 returns-then-is_killed-clause-visit g c p v =
     c.kill_for_few_pages.ensures.visit p (c.reclaim_for.ensures.visit p (c.drain_stocks.ensures.visit p (c.note_event.ensures.visit p
-    (limit_visits g.N.BootName.frames c.args.limited c.args.pages c.args.machine.now c.note_limit.new.machine c.note_limit.ensures p v))))
+    (limit_visits g.N.BootName.table c.args.limited c.args.pages c.args.machine.now c.note_limit.new.machine c.note_limit.ensures p v))))
 
 pub returns-then-has_room_at-clause-visit : goal.returns-then-has_room_at-clause-visit
 returns-then-has_room_at-clause-visit g c p v =
     c.kill_for_few_pages.ensures.visit p (c.reclaim_for.ensures.visit p (c.drain_stocks.ensures.visit p (c.note_event.ensures.visit p
-    (limit_visits g.N.BootName.frames c.args.limited c.args.pages c.args.machine.now c.note_limit.new.machine c.note_limit.ensures p v))))
+    (limit_visits g.N.BootName.table c.args.limited c.args.pages c.args.machine.now c.note_limit.new.machine c.note_limit.ensures p v))))
 
 pub returns-else-has_room_at-clause-visit : goal.returns-else-has_room_at-clause-visit
 returns-else-has_room_at-clause-visit g c p v =
     c.kill_for_few_pages.ensures.visit p (c.reclaim_for.ensures.visit p (c.drain_stocks.ensures.visit p (c.note_event.ensures.visit p
-    (limit_visits g.N.BootName.frames c.args.limited c.args.pages c.args.machine.now c.note_limit.new.machine c.note_limit.ensures p v))))
+    (limit_visits g.N.BootName.table c.args.limited c.args.pages c.args.machine.now c.note_limit.new.machine c.note_limit.ensures p v))))

@@ -8,4 +8,4 @@ pub returns-in_default : goal.returns-in_default
 returns-in_default g c =
     let none : limit_of c.args.machine.now.ledger.groups c.args.limited ≡ None =
     ap (λ (l : Ledger). limit_of l.groups c.args.limited) (sym c.charges.ensures) ∙ sym c.max.ensures ∙ c.in_default.is in
-    record { reclaims = no_rounds g.N.BootName.frames c.args.limited c.args.pages c.args.machine.now none; visit = λ p v. v }
+    record { reclaims = no_rounds g.N.BootName.table c.args.limited c.args.pages c.args.machine.now none; visit = λ p v. v }

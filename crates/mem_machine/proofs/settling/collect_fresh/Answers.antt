@@ -1,5 +1,6 @@
 use Rattle.std.proofs.Common.{rules}
-use Rattle.mem_machine.proofs.Collecting.{collect_notes, hands_over}
+use Rattle.mem_machine.specs.Settling.{collect_steps}
+use Rattle.mem_machine.proofs.Collecting.{hands_over, turn_notes}
 use Rattle.mem_machine.proofs.settling.collect_fresh.Goals as goal
 
 pub returns : goal.returns
@@ -7,6 +8,6 @@ returns g c = record {
   cpu = hands_over _ _ _ c.in-Some.ensures.answer;
   sums = search rules;
   held = c.in-Some.ensures.run.held;
-  notes = collect_notes g.N.BootName.frames _ _ _ _ _ c.number-at.ensures c.number-cpu_number.ensures.number _ _ c.requires.held
+  notes = turn_notes collect_steps g.N.BootName.table _ _ _ _ _ c.number-at.ensures c.number-cpu_number.ensures.number _ _ c.requires.held
       c.in-Some.ensures.run c.watch_collected.ensures;
 }

@@ -23,15 +23,15 @@ kill_noted-requires-clause-there g c =
 
 pub kill_subtree-requires-clause-held : goal.kill_subtree-requires-clause-held
 kill_subtree-requires-clause-held g c =
-    held_noted g.N.BootName.frames c.args.machine.now c.note_victim.new.machine _ c.note_victim.ensures.machine c.requires.held
+    held_noted g.N.BootName.table c.args.machine.now c.note_victim.new.machine _ c.note_victim.ensures.machine c.requires.held
 
 pub kill_noted-requires-clause-held : goal.kill_noted-requires-clause-held
 kill_noted-requires-clause-held g c =
-    held_noted g.N.BootName.frames c.args.machine.now c.note_victim.new.machine _ c.note_victim.ensures.machine c.requires.held
+    held_noted g.N.BootName.table c.args.machine.now c.note_victim.new.machine _ c.note_victim.ensures.machine c.requires.held
 
 pub returns-in-Some : goal.returns-in-Some
 returns-in-Some g c =
-    let t = g.N.BootName.frames in
+    let t = g.N.BootName.table in
     let a = c.note_victim.new.machine in
     let n = c.kill_subtree.new.machine in
     let v = c.in_ok-victim.victim in
@@ -54,7 +54,7 @@ returns-in-Some g c =
 
 pub returns-in-None : goal.returns-in-None
 returns-in-None g c =
-    let t = g.N.BootName.frames in
+    let t = g.N.BootName.table in
     let a = c.note_victim.new.machine in
     let n = c.kill_noted.new.machine in
     let v = c.in_ok-victim.victim in

@@ -8,7 +8,7 @@ use Rattle.mem_reclaim.proofs.kills.kill_below.Goals as goal
 use Rattle.mem_reclaim.proofs.kills.kill_below.Goals.{then-may_be_killed, else-may_be_killed}
 
 pub loop-number-init : goal.loop-number-init
-loop-number-init g c = below_first g.N.BootName.frames c.args.limited c.args.killed_root c.args.machine.now
+loop-number-init g c = below_first g.N.BootName.table c.args.limited c.args.killed_root c.args.machine.now
 
 pub kill_noted-requires-clause-there : goal.kill_noted-requires-clause-there
 kill_noted-requires-clause-there g c =
@@ -17,11 +17,11 @@ kill_noted-requires-clause-there g c =
 pub kill_noted-requires-clause-held : goal.kill_noted-requires-clause-held
 kill_noted-requires-clause-held g c =
     let kills = c.loop-number.invariant.so.kills in
-    held_after g.N.BootName.frames c.args.machine.now kills.steps c.loop-number.machine kills.runs c.requires.held
+    held_after g.N.BootName.table c.args.machine.now kills.steps c.loop-number.machine kills.runs c.requires.held
 
 pub loop-number-preserved : goal.loop-number-preserved
 loop-number-preserved g c =
-    let t = g.N.BootName.frames in
+    let t = g.N.BootName.table in
     let turn : c.in-Some.turn ≡ c.loop-number.number = search rules in
     let told : c.may_be_killed.result ≡ may_be_killed c.loop-number.machine c.args.killed_root c.loop-number.number =
     c.may_be_killed.ensures ∙ ap (may_be_killed c.loop-number.machine c.args.killed_root) turn in
@@ -44,7 +44,7 @@ loop-number-preserved g c =
 
 pub returns : goal.returns
 returns g c =
-    let so = below_all g.N.BootName.frames c.args.limited c.args.killed_root c.args.machine.now c.loop-number.number c.loop-number.machine
+    let so = below_all g.N.BootName.table c.args.limited c.args.killed_root c.args.machine.now c.loop-number.number c.loop-number.machine
     c.loop-number.invariant
     (search rules) in
     record { kills = so.kills; marked = so.marked; drained = so.drained; stocks = so.stocks; none_kept = so.none_kept; keeps = so.keeps }

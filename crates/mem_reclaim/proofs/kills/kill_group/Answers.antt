@@ -6,12 +6,12 @@ use Rattle.mem_reclaim.proofs.kills.kill_group.Goals as goal
 
 pub drain_group_stocks-requires : goal.drain_group_stocks-requires
 drain_group_stocks-requires g c = record {
-  held = held_after g.N.BootName.frames c.args.machine.now (kill_steps c.args.group) c.mark_killed.new.self c.mark_killed.ensures.steps c.requires.held;
+  held = held_after g.N.BootName.table c.args.machine.now (kill_steps c.args.group) c.mark_killed.new.self c.mark_killed.ensures.steps c.requires.held;
 }
 
 pub release_units-requires : goal.release_units-requires
 release_units-requires g c =
-    let t = g.N.BootName.frames in
+    let t = g.N.BootName.table in
     let marked = c.mark_killed.new.self in
     let drains = c.drain_group_stocks.ensures.drains in record {
       held = held_after t marked (drain_stocks_steps drains.drains) c.drain_group_stocks.new.self drains.steps
@@ -20,7 +20,7 @@ release_units-requires g c =
 
 pub release_units-requires-2 : goal.release_units-requires-2
 release_units-requires-2 g c =
-    let t = g.N.BootName.frames in
+    let t = g.N.BootName.table in
     let marked = c.mark_killed.new.self in
     let drained = c.drain_group_stocks.new.self in
     let drains = c.drain_group_stocks.ensures.drains in
@@ -32,7 +32,7 @@ release_units-requires-2 g c =
 pub returns : goal.returns
 returns g c =
     let fits : c.args.group < 64 = search rules in
-    let all = all_killed g.N.BootName.frames c.args.group fits c.args.machine.now c.mark_killed.new.self c.drain_group_stocks.new.self
+    let all = all_killed g.N.BootName.table c.args.group fits c.args.machine.now c.mark_killed.new.self c.drain_group_stocks.new.self
     c.release_units.new.machine c.release_units-2.new.machine c.mark_killed.ensures.machine c.mark_killed.ensures.usage c.mark_killed.ensures.steps c.mark_killed.ensures.visit c.requires.held
     c.drain_group_stocks.result c.drain_group_stocks.ensures.drains c.drain_group_stocks.ensures.drained c.drain_group_stocks.ensures.visit c.release_units.ensures.releases c.release_units.ensures.empty c.release_units.ensures.keeps
     c.release_units.ensures.stocks c.prove_consistent.ensures c.release_units-2.ensures.releases c.release_units-2.ensures.empty c.release_units-2.ensures.keeps

@@ -7,7 +7,7 @@ use Rattle.mem_reclaim.proofs.Grown.{held_after}
 use Rattle.mem_reclaim.proofs.passes.reclaim_pass.Goals as goal
 
 pub loop-number-init : goal.loop-number-init
-loop-number-init g c = pass_none g.N.BootName.frames c.args.pass c.args.target c.args.want c.args.machine.now c.args.groups c.requires.subtree
+loop-number-init g c = pass_none g.N.BootName.table c.args.pass c.args.target c.args.want c.args.machine.now c.args.groups c.requires.subtree
 
 pub returns-then-want-freed-clause-passes : goal.returns-then-want-freed-clause-passes
 returns-then-want-freed-clause-passes g c = (pass_enough _ _ _ _ _ _ _ _ c.loop-number.invariant c.if-want-freed.true).passes
@@ -26,7 +26,7 @@ take_turn-freed-requires-clause-there g c =
 pub take_turn-freed-requires-clause-held : goal.take_turn-freed-requires-clause-held
 take_turn-freed-requires-clause-held g c =
     let so = c.loop-number.invariant.so_far in
-    held_after g.N.BootName.frames c.args.machine.now so.steps c.loop-number.machine so.moves.runs c.requires.held
+    held_after g.N.BootName.table c.args.machine.now so.steps c.loop-number.machine so.moves.runs c.requires.held
 
 pub loop-number-preserved : goal.loop-number-preserved
 loop-number-preserved g c =

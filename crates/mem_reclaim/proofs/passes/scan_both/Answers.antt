@@ -12,25 +12,25 @@ use Rattle.mem_reclaim.proofs.passes.scan_both.Goals as goal
 
 pub returns-then-want-inactive-clause-passes : goal.returns-then-want-inactive-clause-passes
 returns-then-want-inactive-clause-passes g c =
-    first_enough g.N.BootName.frames (ScansList false c.args.group) Inactive (Active ∷ []) c.args.want c.args.machine.now c.requires.wanted c.scan-inactive.result
+    first_enough g.N.BootName.table (ScansList false c.args.group) Inactive (Active ∷ []) c.args.want c.args.machine.now c.requires.wanted c.scan-inactive.result
     c.scan-inactive.new.machine c.scan-inactive.ensures.scans c.if-want-inactive.true
 
 pub scan-active-requires-clause-held : goal.scan-active-requires-clause-held
 scan-active-requires-clause-held g c =
     let first = c.scan-inactive.ensures.scans in
-    held_after g.N.BootName.frames c.args.machine.now first.steps c.scan-inactive.new.machine first.moves.runs c.requires.held
+    held_after g.N.BootName.table c.args.machine.now first.steps c.scan-inactive.new.machine first.moves.runs c.requires.held
 
 pub returns-clause-passes : goal.returns-clause-passes
 returns-clause-passes g c =
-    both_done g.N.BootName.frames (ScansList false c.args.group) Inactive Active c.args.want c.args.machine.now c.requires.wanted c.scan-inactive.result
+    both_done g.N.BootName.table (ScansList false c.args.group) Inactive Active c.args.want c.args.machine.now c.requires.wanted c.scan-inactive.result
     c.scan-inactive.new.machine c.scan-inactive.ensures.scans c.if-want-inactive.false c.scan-active.result c.scan-active.new.machine c.scan-active.ensures.scans
 
 pub returns-clause-keeps : goal.returns-clause-keeps
-returns-clause-keeps g c = keeps_both g.N.BootName.frames c.args.machine.now c.scan-inactive.new.machine c.scan-active.new.machine c.scan-inactive.ensures.keeps c.scan-active.ensures.keeps
+returns-clause-keeps g c = keeps_both g.N.BootName.table c.args.machine.now c.scan-inactive.new.machine c.scan-active.new.machine c.scan-inactive.ensures.keeps c.scan-active.ensures.keeps
 
 pub returns-clause-usage : goal.returns-clause-usage
 returns-clause-usage g c x =
-    usage_both g.N.BootName.frames c.args.machine.now c.scan-inactive.new.machine c.scan-active.new.machine c.args.group x c.scan-inactive.result c.scan-active.result c.scan-inactive.ensures.keeps (c.scan-inactive.ensures.usage x)
+    usage_both g.N.BootName.table c.args.machine.now c.scan-inactive.new.machine c.scan-active.new.machine c.args.group x c.scan-inactive.result c.scan-active.result c.scan-inactive.ensures.keeps (c.scan-inactive.ensures.usage x)
     (c.scan-active.ensures.usage x)
 
 pub returns-clause-leaves : goal.returns-clause-leaves
@@ -38,7 +38,7 @@ returns-clause-leaves g c = only_both c.args.machine.now c.scan-inactive.new.mac
 
 pub returns-clause-missed : goal.returns-clause-missed
 returns-clause-missed g c less =
-    both_missed g.N.BootName.frames c.args.machine.now c.scan-inactive.new.machine c.scan-active.new.machine c.args.group c.scan-inactive.ensures.keeps c.scan-active.ensures.keeps (c.scan-active.ensures.leaves refl)
+    both_missed g.N.BootName.table c.args.machine.now c.scan-inactive.new.machine c.scan-active.new.machine c.args.group c.scan-inactive.ensures.keeps c.scan-active.ensures.keeps (c.scan-active.ensures.leaves refl)
     (c.scan-inactive.ensures.missed refl c.if-want-inactive.false) (c.scan-active.ensures.missed refl (let a = c.if-want-inactive.false in omega (arith, less, a)))
 
 pub returns-clause-few : goal.returns-clause-few

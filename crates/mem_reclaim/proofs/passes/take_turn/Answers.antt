@@ -7,7 +7,7 @@ returns-then-wanted-eq0 g c =
     let m = c.args.machine.now in
     let p = c.protection_of-protection in
     let taken =
-    turn_none g.N.BootName.frames c.args.pass c.args.target c.args.group c.args.want p.result.min p.result.low c.current-usage.result c.spared_by.result
+    turn_none g.N.BootName.table c.args.pass c.args.target c.args.group c.args.want p.result.min p.result.low c.current-usage.result c.spared_by.result
     c.turn_want-wanted.result m c.note_spared.new.machine c.charges-charges.result.now c.charges-charges.ensures c.prove_charges.ensures.legal.groups
     c.requires.inside p.ensures.min p.ensures.low c.current-usage.ensures c.spared_by.ensures c.turn_want-wanted.ensures
     c.note_spared.ensures c.requires.wanted c.if-wanted-eq0.true in
@@ -19,7 +19,7 @@ returns g c =
     let p = c.protection_of-protection in
     let e = c.reclaim_group.ensures in
     let taken =
-    turn_some g.N.BootName.frames c.args.pass c.args.target c.args.group c.args.want p.result.min p.result.low c.current-usage.result c.spared_by.result
+    turn_some g.N.BootName.table c.args.pass c.args.target c.args.group c.args.want p.result.min p.result.low c.current-usage.result c.spared_by.result
     c.turn_want-wanted.result m c.note_spared.new.machine c.charges-charges.result.now c.charges-charges.ensures c.prove_charges.ensures.legal.groups
     c.requires.inside p.ensures.min p.ensures.low c.current-usage.ensures c.spared_by.ensures c.turn_want-wanted.ensures
     c.note_spared.ensures c.if-wanted-eq0.false c.reclaim_group.result c.reclaim_group.new.machine

@@ -10,7 +10,7 @@ pub returns-then-want-eq0-clause-reclaims : goal.returns-then-want-eq0-clause-re
 returns-then-want-eq0-clause-reclaims g c = record {
   steps = [];
   does = inl ((let none = c.if-want-eq0.true in omega (arith, none)), record { no_page = refl; machine = refl; no_step = refl });
-  moves = moves_rest g.N.BootName.frames c.args.machine.now;
+  moves = moves_rest g.N.BootName.table c.args.machine.now;
 }
 
 pub make_passes-pages-requires-clause-subtree : goal.make_passes-pages-requires-clause-subtree

@@ -10,7 +10,7 @@ returns-clause-makes g c =
     let x = c.reclaim-reclaimed.new.machine in
     let freed = c.reclaim-reclaimed.result.pages in
     let noted : c.note.new.self ≡ with_note x (round_note c.args.group c.args.number freed c.args.machine.now x) = search rules in
-    (round_noted g.N.BootName.frames c.args.group c.args.number c.args.want c.args.machine.now freed x c.note.new.self c.reclaim-reclaimed.ensures.reclaims
+    (round_noted g.N.BootName.table c.args.group c.args.number c.args.want c.args.machine.now freed x c.note.new.self c.reclaim-reclaimed.ensures.reclaims
     c.reclaim-reclaimed.ensures.keeps noted).makes
 
 pub returns-clause-keeps : goal.returns-clause-keeps
@@ -18,7 +18,7 @@ returns-clause-keeps g c =
     let x = c.reclaim-reclaimed.new.machine in
     let freed = c.reclaim-reclaimed.result.pages in
     let noted : c.note.new.self ≡ with_note x (round_note c.args.group c.args.number freed c.args.machine.now x) = search rules in
-    (round_noted g.N.BootName.frames c.args.group c.args.number c.args.want c.args.machine.now freed x c.note.new.self c.reclaim-reclaimed.ensures.reclaims
+    (round_noted g.N.BootName.table c.args.group c.args.number c.args.want c.args.machine.now freed x c.note.new.self c.reclaim-reclaimed.ensures.reclaims
     c.reclaim-reclaimed.ensures.keeps noted).keeps
 
 pub returns-clause-missed : goal.returns-clause-missed

@@ -7,7 +7,7 @@ use Rattle.mem_reclaim.proofs.Grown.{held_after}
 use Rattle.mem_reclaim.proofs.rounds.reclaim_to_limit.Goals as goal
 
 pub loop-round-init : goal.loop-round-init
-loop-round-init g c = rounds_none g.N.BootName.frames c.args.group c.args.need c.args.limit c.args.machine.now
+loop-round-init g c = rounds_none g.N.BootName.table c.args.group c.args.need c.args.limit c.args.machine.now
 
 pub missing-want-requires : goal.missing-want-requires
 missing-want-requires g c =
@@ -17,7 +17,7 @@ missing-want-requires g c =
 pub returns-then-want-eq0 : goal.returns-then-want-eq0
 returns-then-want-eq0 g c =
     let none : pages_missing c.args.group c.args.need c.args.limit c.loop-round.machine.ledger ≡ 0 = sym (c.missing-want.ensures.missing ∙ ap (pages_missing c.args.group c.args.need c.args.limit) c.charges.ensures) ∙ c.if-want-eq0.true in
-    let h = rounds_enough g.N.BootName.frames c.args.group c.args.need c.args.limit c.args.machine.now c.loop-round.round c.loop-round.freed
+    let h = rounds_enough g.N.BootName.table c.args.group c.args.need c.args.limit c.args.machine.now c.loop-round.round c.loop-round.freed
     c.loop-round.machine c.loop-round.invariant c.loop-round-test.true none in
     record { rounds = h.rounds; missed = h.missed; usage = h.usage; keeps = h.keeps }
 
@@ -25,7 +25,7 @@ pub reclaim_round-pages-requires : goal.reclaim_round-pages-requires
 reclaim_round-pages-requires g c =
     let so = c.loop-round.invariant in record {
       there = ap (λ l. has_group l c.args.group) so.keeps.groups ∙ c.requires.there;
-      held = held_after g.N.BootName.frames c.args.machine.now so.steps c.loop-round.machine so.moves.runs c.requires.held;
+      held = held_after g.N.BootName.table c.args.machine.now so.steps c.loop-round.machine so.moves.runs c.requires.held;
     }
 
 pub overflow_add-freed : goal.overflow_add-freed
@@ -41,7 +41,7 @@ pub returns-then-pages-eq0 : goal.returns-then-pages-eq0
 returns-then-pages-eq0 g c =
     let e = c.reclaim_round-pages.ensures in
     let wants : c.missing-want.result ≡ pages_missing c.args.group c.args.need c.args.limit c.loop-round.machine.ledger = c.missing-want.ensures.missing ∙ ap (pages_missing c.args.group c.args.need c.args.limit) c.charges.ensures in
-    let h = rounds_end g.N.BootName.frames c.args.group c.args.need c.args.limit c.args.machine.now c.loop-round.round c.loop-round.freed
+    let h = rounds_end g.N.BootName.table c.args.group c.args.need c.args.limit c.args.machine.now c.loop-round.round c.loop-round.freed
     c.loop-round.machine c.loop-round.invariant c.loop-round-test.true c.missing-want.result c.reclaim_round-pages.result.pages c.reclaim_round-pages.new.machine
     c.reclaim_round-pages.result.tried_all wants c.if-want-eq0.false e.makes e.tried_all e.missed e.usage e.keeps c.if-pages-eq0.true in
     record { rounds = h.rounds; missed = h.missed; usage = h.usage; keeps = h.keeps }
@@ -52,12 +52,12 @@ loop-round-preserved g c =
     let wants : c.missing-want.result ≡ pages_missing c.args.group c.args.need c.args.limit c.loop-round.machine.ledger = c.missing-want.ensures.missing ∙ ap (pages_missing c.args.group c.args.need c.args.limit) c.charges.ensures in
     let low : current_of c.loop-round.machine.ledger c.args.group < 2 ^ 32 =
     subst (λ (l : Ledger). current_of l c.args.group < 2 ^ 32) c.charges.ensures c.missing-want.ensures.few in
-    rounds_more g.N.BootName.frames c.args.group c.args.need c.args.limit c.args.machine.now c.loop-round.round c.loop-round.freed
+    rounds_more g.N.BootName.table c.args.group c.args.need c.args.limit c.args.machine.now c.loop-round.round c.loop-round.freed
     c.loop-round.machine c.loop-round.invariant c.loop-round-test.true c.missing-want.result c.reclaim_round-pages.result.pages c.reclaim_round-pages.new.machine
     c.reclaim_round-pages.result.tried_all wants c.if-want-eq0.false e.makes e.tried_all e.missed e.usage e.keeps c.if-pages-eq0.false low
 
 pub returns : goal.returns
 returns g c =
-    let h = rounds_done g.N.BootName.frames c.args.group c.args.need c.args.limit c.args.machine.now c.loop-round.round c.loop-round.freed
+    let h = rounds_done g.N.BootName.table c.args.group c.args.need c.args.limit c.args.machine.now c.loop-round.round c.loop-round.freed
     c.loop-round.machine c.loop-round.invariant c.loop-round-test.false in
     record { rounds = h.rounds; missed = h.missed; usage = h.usage; keeps = h.keeps }

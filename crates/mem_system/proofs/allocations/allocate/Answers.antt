@@ -14,7 +14,7 @@ allocate_as-answer-requires-clause-there g c =
 
 pub returns-clause-allocates : goal.returns-clause-allocates
 returns-clause-allocates g c =
-    let t = g.N.BootName.frames in
+    let t = g.N.BootName.table in
     let before = visit_state c.args.machine.now c.args.cpu.now in
     let after = visit_state c.allocate_as-answer.new.machine c.allocate_as-answer.new.cpu in
     let answer = c.allocate_as-answer.result in

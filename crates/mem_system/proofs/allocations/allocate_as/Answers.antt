@@ -10,7 +10,7 @@ use Rattle.mem_system.proofs.allocations.allocate_as.Goals as goal
 
 pub returns-then-exponent-eq0-clause-there : goal.returns-then-exponent-eq0-clause-there
 returns-then-exponent-eq0-clause-there g c =
-    let t = g.N.BootName.frames in
+    let t = g.N.BootName.table in
     let told = c.alloc_frame.ensures.allocates in
     λ h is. frame_over_there t c.args.sizes c.args.group h _ _ _ _ told.steps
     (subst (λ (r : Result ℕ AllocFault). AllocatesFrame c.args.sizes c.args.group r
@@ -18,7 +18,7 @@ returns-then-exponent-eq0-clause-there g c =
 
 pub returns-else-exponent-eq0-clause-there : goal.returns-else-exponent-eq0-clause-there
 returns-else-exponent-eq0-clause-there g c =
-    let t = g.N.BootName.frames in
+    let t = g.N.BootName.table in
     let told = c.alloc_block.ensures.allocates in
     λ h is. block_over_there t c.args.group c.args.order h _ _ _ _ told.steps
     (subst (λ (r : Result ℕ AllocFault). AllocatesBlock c.args.group c.args.order r

@@ -6,7 +6,7 @@ pub returns : goal.returns
 returns g c = λ none.
     let placed = each_is_placed c.args.machine.now.frame_states (λ f p is. none p f is) in
     let sized = c.prove_consistent.ensures.sizes.frame_states in
-    let size : c.frames-frames.result ≡ g.N.BootName.frames.frames = search rules in
+    let size : c.frames-frames.result ≡ g.N.BootName.table.frames = search rules in
     let charged = c.count_charged-charged.ensures.charged in
     record {
       frames = size;

@@ -9,7 +9,7 @@ use Rattle.mem_system.proofs.boot_end.make_last_visits.Goals as goal
 
 pub empty_all-requires-clause-settled : goal.empty_all-requires-clause-settled
 empty_all-requires-clause-settled g c =
-    let t = g.N.BootName.frames in
+    let t = g.N.BootName.table in
     let first = c.deref_mut.ensures.value in
     let long = turn_long (VisitsUnderLock t SettlesInVisit) _ _ _ _ c.settle_all.ensures.settles ∙ ap length first in
     let same = c.deref_mut-2.ensures.value ∙ written_back c.args.cpus.len c.settle_all.new.cpus c.args.cpus.items long
@@ -18,7 +18,7 @@ empty_all-requires-clause-settled g c =
 
 pub returns-clause-visits : goal.returns-clause-visits
 returns-clause-visits g c =
-    let t = g.N.BootName.frames in
+    let t = g.N.BootName.table in
     let first = c.deref_mut.ensures.value in
     let second = c.deref_mut-2.ensures.value in
     let size = sym c.deref_mut.ensures.len ∙ ap length first in
@@ -46,7 +46,7 @@ returns-clause-visits g c =
 
 pub invariant_of-result : goal.invariant_of-result
 invariant_of-result g c =
-    let t = g.N.BootName.frames in
+    let t = g.N.BootName.table in
     let first = c.deref_mut.ensures.value in
     let second = c.deref_mut-2.ensures.value in
     let size = sym c.deref_mut.ensures.len ∙ ap length first in

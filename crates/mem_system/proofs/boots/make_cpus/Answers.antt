@@ -11,7 +11,7 @@ pub loop-dealt-init : goal.loop-dealt-init
 loop-dealt-init g c = record {
   room = omega (arith, c.in_ok-made.ensures.capacity);
   size = c.in_ok-made.ensures.len;
-  seats = c.requires.seats ∙ ap (cpus_at_first g.N.BootName.frames.table 1) (let e : c.args.cpus ≡ c.args.cpus - 0 = omega arith in e);
+  seats = c.requires.seats ∙ ap (cpus_at_first g.N.BootName.table.table 1) (let e : c.args.cpus ≡ c.args.cpus - 0 = omega arith in e);
   away = c.requires.away;
   parts = ap parts_of c.in_ok-made.ensures.items;
   pasts = ap pasts_of c.in_ok-made.ensures.items;
@@ -19,19 +19,19 @@ loop-dealt-init g c = record {
 
 pub remove-requires : goal.remove-requires
 remove-requires g c =
-    let left = c.loop-dealt.invariant.seats ∙ seats_left g.N.BootName.frames.table c.loop-dealt._dealt c.args.cpus c.loop-dealt-test.true in
+    let left = c.loop-dealt.invariant.seats ∙ seats_left g.N.BootName.table.table c.loop-dealt._dealt c.args.cpus c.loop-dealt-test.true in
     let some : 0 < length c.loop-dealt.seats.items = omega (arith, ap length left) in search rules
 
 pub new-requires-clause-seat : goal.new-requires-clause-seat
 new-requires-clause-seat g c =
-    let id = g.N.BootName.frames.table in
+    let id = g.N.BootName.table.table in
     let i = c.loop-dealt._dealt in
     let front = front_is _ (cpu_at_first id (i + 1)) _ _ (c.loop-dealt.invariant.seats ∙ seats_left id i c.args.cpus c.loop-dealt-test.true) c.remove.ensures.value in
     front ∙ ap (cpu_at_first id) (sym (ap (λ (s : KnownCpuSeat). s.number) front))
 
 pub new-requires-clause-away : goal.new-requires-clause-away
 new-requires-clause-away g c =
-    let t = g.N.BootName.frames in
+    let t = g.N.BootName.table in
     let left = c.loop-dealt.invariant.seats ∙ seats_left t.table c.loop-dealt._dealt c.args.cpus c.loop-dealt-test.true in
     subst (IsAwayCpu t) (sym (front_is _ _ _ _ left c.remove.ensures.value)) (subst (AllOf (IsAwayCpu t)) left c.loop-dealt.invariant.away).0
 
@@ -40,7 +40,7 @@ take_apart-requires g c = subst (All IsIdle) (sym c.loop-dealt.invariant.parts) 
 
 pub loop-dealt-preserved : goal.loop-dealt-preserved
 loop-dealt-preserved g c =
-    let t = g.N.BootName.frames in
+    let t = g.N.BootName.table in
     let i = c.loop-dealt._dealt in
     let left = c.loop-dealt.invariant.seats ∙ seats_left t.table i c.args.cpus c.loop-dealt-test.true in
     let front = front_is _ (cpu_at_first t.table (i + 1)) _ _ left c.remove.ensures.value in
@@ -54,7 +54,7 @@ loop-dealt-preserved g c =
           ∙ (λ j. c.loop-dealt.invariant.parts j ++ (ap (λ (x : CpuInRun). x.part) c.in-Ok.ensures ∙ ap (λ (s : KnownCpuSeat). first_cpu s.number) front) j ∷ [])
           ∙ sym (cpus_next i);
       pasts = ap pasts_of c.push_reserved.ensures.items ∙ map-append (λ (x : CpuInRun). own_past x.past) c.loop-dealt.made.items (c.in-Ok.cpu ∷ [])
-          ∙ (λ j. c.loop-dealt.invariant.pasts j ++ (ap (λ (x : CpuInRun). own_past x.past) c.in-Ok.ensures ∙ ap (λ (s : KnownCpuSeat). own_past s.seat) front) j ∷ [])
+          ∙ (λ j. c.loop-dealt.invariant.pasts j ++ (ap (λ (x : CpuInRun). own_past x.past) c.in-Ok.ensures ∙ ap (λ (s : KnownCpuSeat). own_past s.past) front) j ∷ [])
           ∙ sym (pasts_next i);
     }
 

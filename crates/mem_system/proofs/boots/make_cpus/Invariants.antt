@@ -9,8 +9,8 @@ abbrev pub invariant-loop-dealt : goal.invariant-loop-dealt
 invariant-loop-dealt g l = record {
   room : l.cpus ≤ vec_capacity l.made;
   size : vec_len l.made ≡ l._dealt;
-  seats : l.seats.items ≡ cpus_at_first g.N.BootName.frames.table (l._dealt + 1) (l.cpus - l._dealt);
-  away : AllOf (IsAwayCpu g.N.BootName.frames) l.seats.items;
+  seats : l.seats.items ≡ cpus_at_first g.N.BootName.table.table (l._dealt + 1) (l.cpus - l._dealt);
+  away : AllOf (IsAwayCpu g.N.BootName.table) l.seats.items;
   parts : parts_of l.made.items ≡ first_cpus 1 l._dealt;
   pasts : pasts_of l.made.items ≡ first_pasts 1 l._dealt;
 }

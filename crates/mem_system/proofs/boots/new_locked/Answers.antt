@@ -10,9 +10,9 @@ invariant_of-result g c =
     let none = ap (λ (s : KnownPasts). (own_past s).seen) made.first.past in
     record {
       quiet = record {
-        shut = λ cpu. ap (λ (run : Run). visits cpu (state_of (zone_of_boot g.N.BootName.frames) run).hold) none;
+        shut = λ cpu. ap (λ (run : Run). visits cpu (state_of (zone_of_boot g.N.BootName.table) run).hold) none;
         rests = made.rests;
-        counted = first_counted g.N.BootName.frames c.in_ok-machine.machine made.first;
+        counted = first_counted g.N.BootName.table c.in_ok-machine.machine made.first;
         valid = c.requires.valid;
         sized = c.requires.sized;
       };

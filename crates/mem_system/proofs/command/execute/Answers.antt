@@ -1,7 +1,7 @@
 -- Serves the contract of `execute`: what each command did, in the words of the command that it is.
 use Rattle.std.proofs.Common.{◌≡◌, ◌∙◌, [], ap, arith, length, refl, subst}
 use Rattle.zone_blocks.specs.declared.config.Config.{Config}
-use Rattle.cpu_part.specs.Cpus.{KnownCpu}
+use Rattle.cpu_part.specs.Cpus.{KnownCpuLists}
 use Rattle.mem_machine.proofs.Followed.{makes_none}
 use Rattle.mem_system.specs.{ListAndFreshStayWithin, NamesFrameBelow}
 use Rattle.mem_machine.proofs.Made.{visit_same}
@@ -9,7 +9,7 @@ use Rattle.mem_system.proofs.Keeping.{keeps_visit}
 use Rattle.mem_system.proofs.command.execute.Goals as goal
 
 -- a CPU without fresh frames has at most `high` frames, if its list has
-none_fresh : (sizes : Config) (cpu : KnownCpu) → cpu.fresh ≡ [] → ListAndFreshStayWithin sizes cpu cpu
+none_fresh : (sizes : Config) (cpu : KnownCpuLists) → cpu.fresh ≡ [] → ListAndFreshStayWithin sizes cpu cpu
 none_fresh sizes cpu none = λ within. let no_more = ap length none in omega (arith, no_more, within)
 
 pub make_group-requires : goal.make_group-requires
@@ -22,13 +22,13 @@ pub remove_group-requires : goal.remove_group-requires
 remove_group-requires g c = record { held = c.requires.visit.visit.held }
 
 pub report_place-requires : goal.report_place-requires
-report_place-requires g c = subst (NamesFrameBelow g.N.BootName.frames.frames) c.in-Owner.is c.requires.zone
+report_place-requires g c = subst (NamesFrameBelow g.N.BootName.table.frames) c.in-Owner.is c.requires.zone
 
 pub touch_frame-requires : goal.touch_frame-requires
-touch_frame-requires g c = subst (NamesFrameBelow g.N.BootName.frames.frames) c.in-Touch.is c.requires.zone
+touch_frame-requires g c = subst (NamesFrameBelow g.N.BootName.table.frames) c.in-Touch.is c.requires.zone
 
 pub note_dirt-requires : goal.note_dirt-requires
-note_dirt-requires g c = subst (NamesFrameBelow g.N.BootName.frames.frames) c.in-Dirty.is c.requires.zone
+note_dirt-requires g c = subst (NamesFrameBelow g.N.BootName.table.frames) c.in-Dirty.is c.requires.zone
 
 pub returns-in-Mkdir : goal.returns-in-Mkdir
 returns-in-Mkdir g c =
@@ -37,7 +37,7 @@ returns-in-Mkdir g c =
     rw c.in-Mkdir.is (record {
       executed = record { steps = does.steps; does = record { does = does.does; cpu = refl }; makes = does.makes };
       groups = told.groups;
-      stays = keeps_visit g.N.BootName.frames c.args.machine.now c.make_group.new.machine c.args.cpu.now (told.visit c.args.cpu.now c.requires.visit.visit);
+      stays = keeps_visit g.N.BootName.table c.args.machine.now c.make_group.new.machine c.args.cpu.now (told.visit c.args.cpu.now c.requires.visit.visit);
       fresh = c.requires.visit.settled.0;
       at_most_high = none_fresh c.args.sizes c.args.cpu.now c.requires.visit.settled.0;
     })
@@ -49,8 +49,8 @@ returns-in-Touch g c =
     rw c.in-Touch.is (record {
       executed = record { steps = does.steps; does = record { does = does.does; cpu = refl }; makes = does.makes };
       groups = told.groups;
-      stays = keeps_visit g.N.BootName.frames c.args.machine.now c.touch_frame.new.machine c.args.cpu.now
-          (visit_same g.N.BootName.frames c.args.machine.now c.touch_frame.new.machine c.args.cpu.now does.does.run c.requires.visit.visit);
+      stays = keeps_visit g.N.BootName.table c.args.machine.now c.touch_frame.new.machine c.args.cpu.now
+          (visit_same g.N.BootName.table c.args.machine.now c.touch_frame.new.machine c.args.cpu.now does.does.run c.requires.visit.visit);
       fresh = c.requires.visit.settled.0;
       at_most_high = none_fresh c.args.sizes c.args.cpu.now c.requires.visit.settled.0;
     })
@@ -62,8 +62,8 @@ returns-in-Dirty g c =
     rw c.in-Dirty.is (record {
       executed = record { steps = does.steps; does = record { does = does.does; cpu = refl }; makes = does.makes };
       groups = told.groups;
-      stays = keeps_visit g.N.BootName.frames c.args.machine.now c.note_dirt.new.machine c.args.cpu.now
-          (visit_same g.N.BootName.frames c.args.machine.now c.note_dirt.new.machine c.args.cpu.now does.does.run c.requires.visit.visit);
+      stays = keeps_visit g.N.BootName.table c.args.machine.now c.note_dirt.new.machine c.args.cpu.now
+          (visit_same g.N.BootName.table c.args.machine.now c.note_dirt.new.machine c.args.cpu.now does.does.run c.requires.visit.visit);
       fresh = c.requires.visit.settled.0;
       at_most_high = none_fresh c.args.sizes c.args.cpu.now c.requires.visit.settled.0;
     })
@@ -75,8 +75,8 @@ returns-in-Clean g c =
     rw c.in-Clean.is (record {
       executed = record { steps = does.steps; does = record { does = does.does; cpu = refl }; makes = does.makes };
       groups = told.groups;
-      stays = keeps_visit g.N.BootName.frames c.args.machine.now c.note_dirt-in-Clean.new.machine c.args.cpu.now
-          (visit_same g.N.BootName.frames c.args.machine.now c.note_dirt-in-Clean.new.machine c.args.cpu.now does.does.run c.requires.visit.visit);
+      stays = keeps_visit g.N.BootName.table c.args.machine.now c.note_dirt-in-Clean.new.machine c.args.cpu.now
+          (visit_same g.N.BootName.table c.args.machine.now c.note_dirt-in-Clean.new.machine c.args.cpu.now does.does.run c.requires.visit.visit);
       fresh = c.requires.visit.settled.0;
       at_most_high = none_fresh c.args.sizes c.args.cpu.now c.requires.visit.settled.0;
     })
@@ -88,7 +88,7 @@ returns-in-Write g c =
     rw c.in-Write.is (record {
       executed = record { steps = does.steps; does = record { does = does.does; cpu = refl }; makes = does.makes };
       groups = told.groups;
-      stays = keeps_visit g.N.BootName.frames c.args.machine.now c.write_file.new.machine c.args.cpu.now (told.visit c.args.cpu.now c.requires.visit.visit);
+      stays = keeps_visit g.N.BootName.table c.args.machine.now c.write_file.new.machine c.args.cpu.now (told.visit c.args.cpu.now c.requires.visit.visit);
       fresh = c.requires.visit.settled.0;
       at_most_high = none_fresh c.args.sizes c.args.cpu.now c.requires.visit.settled.0;
     })
@@ -100,7 +100,7 @@ returns-in-Rmdir g c =
     rw c.in-Rmdir.is (record {
       executed = record { steps = does.steps; does = record { does = does.does; cpu = refl }; makes = does.makes };
       groups = told.groups;
-      stays = keeps_visit g.N.BootName.frames c.args.machine.now c.remove_group.new.machine c.args.cpu.now (told.visit c.args.cpu.now c.requires.visit.visit);
+      stays = keeps_visit g.N.BootName.table c.args.machine.now c.remove_group.new.machine c.args.cpu.now (told.visit c.args.cpu.now c.requires.visit.visit);
       fresh = c.requires.visit.settled.0;
       at_most_high = none_fresh c.args.sizes c.args.cpu.now c.requires.visit.settled.0;
     })
@@ -137,10 +137,10 @@ returns-in-Read g c =
       executed = record {
         steps = [];
         does = (c.read_file.ensures.read, record { machine = refl; cpu = refl; steps_are = refl });
-        makes = makes_none g.N.BootName.frames c.args.machine.now;
+        makes = makes_none g.N.BootName.table c.args.machine.now;
       };
       groups = c.read_file.ensures.groups;
-      stays = keeps_visit g.N.BootName.frames c.args.machine.now c.args.machine.now c.args.cpu.now c.requires.visit.visit;
+      stays = keeps_visit g.N.BootName.table c.args.machine.now c.args.machine.now c.args.cpu.now c.requires.visit.visit;
       fresh = c.requires.visit.settled.0;
       at_most_high = none_fresh c.args.sizes c.args.cpu.now c.requires.visit.settled.0;
     })
@@ -151,10 +151,10 @@ returns-in-Owner g c =
       executed = record {
         steps = [];
         does = (c.report_place.ensures.place, record { machine = refl; cpu = refl; steps_are = refl });
-        makes = makes_none g.N.BootName.frames c.args.machine.now;
+        makes = makes_none g.N.BootName.table c.args.machine.now;
       };
       groups = c.report_place.ensures.groups;
-      stays = keeps_visit g.N.BootName.frames c.args.machine.now c.args.machine.now c.args.cpu.now c.requires.visit.visit;
+      stays = keeps_visit g.N.BootName.table c.args.machine.now c.args.machine.now c.args.cpu.now c.requires.visit.visit;
       fresh = c.requires.visit.settled.0;
       at_most_high = none_fresh c.args.sizes c.args.cpu.now c.requires.visit.settled.0;
     })
@@ -165,10 +165,10 @@ returns-in-Settle g c =
       executed = record {
         steps = [];
         does = (refl, record { machine = refl; cpu = refl; steps_are = refl });
-        makes = makes_none g.N.BootName.frames c.args.machine.now;
+        makes = makes_none g.N.BootName.table c.args.machine.now;
       };
       groups = tt;
-      stays = keeps_visit g.N.BootName.frames c.args.machine.now c.args.machine.now c.args.cpu.now c.requires.visit.visit;
+      stays = keeps_visit g.N.BootName.table c.args.machine.now c.args.machine.now c.args.cpu.now c.requires.visit.visit;
       fresh = c.requires.visit.settled.0;
       at_most_high = none_fresh c.args.sizes c.args.cpu.now c.requires.visit.settled.0;
     })

@@ -9,12 +9,12 @@ pub serve_outcome-done-requires : goal.serve_outcome-done-requires
 serve_outcome-done-requires g c =
     let start : LockedState = locked_state c.args.locked.now c.args.cpu.now in
     let now : LockedState = locked_state c.serve_outcome-outcome.new.locked c.serve_outcome-outcome.new.cpu in
-    given_inside g.N.BootName.frames c.args.path c.in-Frame.frame start now c.args.order c.in-Frame.ensures.served
+    given_inside g.N.BootName.table c.args.path c.in-Frame.frame start now c.args.order c.in-Frame.ensures.served
     c.in-Frame.ensures.settled.0 c.prove_quiet.ensures.consistent
 
 pub returns-clause-served : goal.returns-clause-served
 returns-clause-served g c =
-    let t = g.N.BootName.frames in
+    let t = g.N.BootName.table in
     let start : LockedState = locked_state c.args.locked.now c.args.cpu.now in
     let now : LockedState = locked_state c.serve_outcome-outcome.new.locked c.serve_outcome-outcome.new.cpu in
     let end : LockedState = locked_state c.serve_outcome-done.new.locked c.serve_outcome-done.new.cpu in

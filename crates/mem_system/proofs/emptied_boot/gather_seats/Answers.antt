@@ -26,7 +26,7 @@ into_seat-requires g c =
 
 pub loop-seats-preserved : goal.loop-seats-preserved
 loop-seats-preserved g c =
-    let t = g.N.BootName.frames in
+    let t = g.N.BootName.table in
     let some : 0 < length c.loop-seats.cpus.items = search rules in
     let front = front_of c.loop-seats.cpus.items c.remove.result some c.remove.ensures.value in
     let was = c.loop-seats.invariant in
@@ -50,5 +50,5 @@ returns g c =
     let none : length c.loop-seats.cpus.items ≡ 0 = search rules in
     let empty = nil_from_length c.loop-seats.cpus.items none in record {
       seats = sym (ap (λ (l : List CpuInRun). c.loop-seats.seats.items ++ map seat_of l) empty ∙ append-nil c.loop-seats.seats.items) ∙ c.loop-seats.invariant.seats;
-      knows = c.loop-seats.invariant.knows (subst (AllOf (KnowsItself g.N.BootName.frames)) (sym empty) tt);
+      knows = c.loop-seats.invariant.knows (subst (AllOf (KnowsItself g.N.BootName.table)) (sym empty) tt);
     }

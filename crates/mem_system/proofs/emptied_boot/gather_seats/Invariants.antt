@@ -11,7 +11,7 @@ invariant-loop-seats g l = record {
   idle : All (λ cpu. IsIdle cpu.part) l.cpus.items;
   room : vec_len l.seats + length l.cpus.items ≤ vec_capacity l.seats;
   seats : l.seats.items ++ map seat_of l.cpus.items ≡ map seat_of l.initial.cpus.items;
-  knows : AllOf (KnowsItself g.N.BootName.frames) l.cpus.items → AllOf (KnowsItself g.N.BootName.frames) l.initial.cpus.items;
+  knows : AllOf (KnowsItself g.N.BootName.table) l.cpus.items → AllOf (KnowsItself g.N.BootName.table) l.initial.cpus.items;
 }
 
 abbrev pub decreases-loop-seats : goal.decreases-loop-seats

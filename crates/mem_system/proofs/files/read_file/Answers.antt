@@ -46,7 +46,7 @@ pub returns-in-Stat-clause-read : goal.returns-in-Stat-clause-read
 returns-in-Stat-clause-read g c =
     let is = subst (λ (l : Ledger). IsFileOf l.groups c.args.path.now c.args.name.now c.in-Ok.found.0 c.in-Ok.found.1) c.charges.ensures c.in-Ok.ensures.found in
     reads_answer c.args.machine.now c.args.path.now c.args.name.now c.in-Ok.found.0 c.in-Ok.found.1 _ is
-    (ap (λ s. Ok (stat_text s)) c.memory_stat.ensures ∙ ap (shown_text c.args.machine.now c.in-Ok.found.0) (sym c.in-Stat.is))
+    (ap (λ s. Ok (stat_text s)) c.memory_stat.ensures.shown ∙ ap (shown_text c.args.machine.now c.in-Ok.found.0) (sym c.in-Stat.is))
 
 pub returns-in_default-clause-read : goal.returns-in_default-clause-read
 returns-in_default-clause-read g c =

@@ -5,7 +5,7 @@ use Rattle.mem_system.proofs.files.reclaim_asked.Goals as goal
 pub returns-then-reclaim_amount-asked-clause-written : goal.returns-then-reclaim_amount-asked-clause-written
 returns-then-reclaim_amount-asked-clause-written g c =
     λ value reads. let did = c.reclaim_amount.ensures in
-    reclaims_less g.N.BootName.frames value c.args.group c.args.asked c.reclaim_amount.result c.args.machine.now
+    reclaims_less g.N.BootName.table value c.args.group c.args.asked c.reclaim_amount.result c.args.machine.now
     c.reclaim_amount.new.machine reads did.rounds did.missed did.usage did.keeps c.if-reclaim_amount-asked.true
 
 pub returns-else-reclaim_amount-asked-clause-written : goal.returns-else-reclaim_amount-asked-clause-written
@@ -13,7 +13,7 @@ returns-else-reclaim_amount-asked-clause-written g c =
     λ value reads. let did = c.reclaim_amount.ensures in
     let less = c.if-reclaim_amount-asked.false in
     let enough : c.args.asked ≤ c.reclaim_amount.result = omega (arith, less) in
-    reclaims_all g.N.BootName.frames value c.args.group c.args.asked c.reclaim_amount.result c.args.machine.now
+    reclaims_all g.N.BootName.table value c.args.group c.args.asked c.reclaim_amount.result c.args.machine.now
     c.reclaim_amount.new.machine reads did.rounds did.missed did.usage did.keeps enough
 
 pub returns-then-reclaim_amount-asked-clause-visit : goal.returns-then-reclaim_amount-asked-clause-visit

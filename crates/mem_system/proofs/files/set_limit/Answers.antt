@@ -13,11 +13,11 @@ keep_to_limit-requires-clause-there g c =
 
 pub keep_to_limit-requires-clause-held : goal.keep_to_limit-requires-clause-held
 keep_to_limit-requires-clause-held g c =
-    held_after g.N.BootName.frames c.args.machine.now (set_max_steps c.args.group c.args.limit) c.set_max.new.self c.set_max.ensures.steps c.requires.held
+    held_after g.N.BootName.table c.args.machine.now (set_max_steps c.args.group c.args.limit) c.set_max.new.self c.set_max.ensures.steps c.requires.held
 
 pub returns-in-Some-clause-sets : goal.returns-in-Some-clause-sets
 returns-in-Some-clause-sets g c =
-    limited_to g.N.BootName.frames c.args.group c.in-Some.limit c.args.limit c.args.machine.now
+    limited_to g.N.BootName.table c.args.group c.in-Some.limit c.args.limit c.args.machine.now
     c.set_max.new.self c.keep_to_limit.new.machine
     c.in-Some.is c.set_max.ensures.machine c.set_max.ensures.steps c.keep_to_limit.ensures.lowers
 
@@ -26,5 +26,5 @@ returns-in-Some-clause-visit g c = λ y v. c.keep_to_limit.ensures.visit y (c.se
 
 pub returns-in_default-clause-sets : goal.returns-in_default-clause-sets
 returns-in_default-clause-sets g c =
-    limited_none g.N.BootName.frames c.args.group c.args.limit c.args.machine.now c.set_max.new.self
+    limited_none g.N.BootName.table c.args.group c.args.limit c.args.machine.now c.set_max.new.self
     c.in_default.is c.set_max.ensures.machine c.set_max.ensures.steps

@@ -38,7 +38,7 @@ returns-in_default g c =
     let is = subst (λ (l : Ledger). IsFileOf l.groups c.args.path.now c.args.name.now c.in-Ok.found.0 c.in-Ok.found.1)
     c.charges.ensures c.in-Ok.ensures.found in
     record {
-      written = refused_at g.N.BootName.frames c.args.path.now c.args.name.now c.args.value.now c.in-Ok.found.0 c.in-Ok.found.1
+      written = refused_at g.N.BootName.table c.args.path.now c.args.name.now c.args.value.now c.in-Ok.found.0 c.in-Ok.found.1
           ReadOnly c.args.machine.now is (read_only c.in-Ok.found.1 c.in_default.not-Max c.in_default.not-High c.in_default.not-Low c.in_default.not-Min c.in_default.not-OomGroup c.in_default.not-Reclaim);
       groups = tt;
       visit = λ y v. v;
@@ -46,14 +46,14 @@ returns-in_default g c =
 
 pub returns-in-Err-clause-written : goal.returns-in-Err-clause-written
 returns-in-Err-clause-written g c =
-    none_written g.N.BootName.frames c.args.path.now c.args.name.now c.args.value.now c.in-Err.fault c.args.machine.now
+    none_written g.N.BootName.table c.args.path.now c.args.name.now c.args.value.now c.in-Err.fault c.args.machine.now
     (subst (λ (l : Ledger). HasNoFile l.groups c.args.path.now c.args.name.now c.in-Err.fault) c.charges.ensures c.in-Err.ensures.none)
 
 pub returns-in-Max-clause-written : goal.returns-in-Max-clause-written
 returns-in-Max-clause-written g c =
     let is = subst (λ (l : Ledger). IsFileOf l.groups c.args.path.now c.args.name.now c.in-Ok.found.0 c.in-Ok.found.1)
     c.charges.ensures c.in-Ok.ensures.found in
-    written_at g.N.BootName.frames c.args.path.now c.args.name.now c.args.value.now c.in-Ok.found.0 Max c.args.machine.now _ _
+    written_at g.N.BootName.table c.args.path.now c.args.name.now c.args.value.now c.in-Ok.found.0 Max c.args.machine.now _ _
     (subst (λ (f : File). IsFileOf c.args.machine.now.ledger.groups c.args.path.now c.args.name.now c.in-Ok.found.0 f) c.in-Max.is is)
     c.write_limit.ensures.written
 
@@ -61,7 +61,7 @@ pub returns-in-High-clause-written : goal.returns-in-High-clause-written
 returns-in-High-clause-written g c =
     let is = subst (λ (l : Ledger). IsFileOf l.groups c.args.path.now c.args.name.now c.in-Ok.found.0 c.in-Ok.found.1)
     c.charges.ensures c.in-Ok.ensures.found in
-    written_at g.N.BootName.frames c.args.path.now c.args.name.now c.args.value.now c.in-Ok.found.0 High c.args.machine.now _ _
+    written_at g.N.BootName.table c.args.path.now c.args.name.now c.args.value.now c.in-Ok.found.0 High c.args.machine.now _ _
     (subst (λ (f : File). IsFileOf c.args.machine.now.ledger.groups c.args.path.now c.args.name.now c.in-Ok.found.0 f) c.in-High.is is)
     c.write_high.ensures.written
 
@@ -69,7 +69,7 @@ pub returns-in-Low-clause-written : goal.returns-in-Low-clause-written
 returns-in-Low-clause-written g c =
     let is = subst (λ (l : Ledger). IsFileOf l.groups c.args.path.now c.args.name.now c.in-Ok.found.0 c.in-Ok.found.1)
     c.charges.ensures c.in-Ok.ensures.found in
-    written_at g.N.BootName.frames c.args.path.now c.args.name.now c.args.value.now c.in-Ok.found.0 Low c.args.machine.now _ _
+    written_at g.N.BootName.table c.args.path.now c.args.name.now c.args.value.now c.in-Ok.found.0 Low c.args.machine.now _ _
     (subst (λ (f : File). IsFileOf c.args.machine.now.ledger.groups c.args.path.now c.args.name.now c.in-Ok.found.0 f) c.in-Low.is is)
     c.write_low.ensures.written
 
@@ -77,7 +77,7 @@ pub returns-in-Min-clause-written : goal.returns-in-Min-clause-written
 returns-in-Min-clause-written g c =
     let is = subst (λ (l : Ledger). IsFileOf l.groups c.args.path.now c.args.name.now c.in-Ok.found.0 c.in-Ok.found.1)
     c.charges.ensures c.in-Ok.ensures.found in
-    written_at g.N.BootName.frames c.args.path.now c.args.name.now c.args.value.now c.in-Ok.found.0 Min c.args.machine.now _ _
+    written_at g.N.BootName.table c.args.path.now c.args.name.now c.args.value.now c.in-Ok.found.0 Min c.args.machine.now _ _
     (subst (λ (f : File). IsFileOf c.args.machine.now.ledger.groups c.args.path.now c.args.name.now c.in-Ok.found.0 f) c.in-Min.is is)
     c.write_min.ensures.written
 
@@ -85,7 +85,7 @@ pub returns-in-OomGroup-clause-written : goal.returns-in-OomGroup-clause-written
 returns-in-OomGroup-clause-written g c =
     let is = subst (λ (l : Ledger). IsFileOf l.groups c.args.path.now c.args.name.now c.in-Ok.found.0 c.in-Ok.found.1)
     c.charges.ensures c.in-Ok.ensures.found in
-    written_at g.N.BootName.frames c.args.path.now c.args.name.now c.args.value.now c.in-Ok.found.0 OomGroup c.args.machine.now _ _
+    written_at g.N.BootName.table c.args.path.now c.args.name.now c.args.value.now c.in-Ok.found.0 OomGroup c.args.machine.now _ _
     (subst (λ (f : File). IsFileOf c.args.machine.now.ledger.groups c.args.path.now c.args.name.now c.in-Ok.found.0 f) c.in-OomGroup.is is)
     c.write_flag.ensures.written
 
@@ -93,6 +93,6 @@ pub returns-in-Reclaim-clause-written : goal.returns-in-Reclaim-clause-written
 returns-in-Reclaim-clause-written g c =
     let is = subst (λ (l : Ledger). IsFileOf l.groups c.args.path.now c.args.name.now c.in-Ok.found.0 c.in-Ok.found.1)
     c.charges.ensures c.in-Ok.ensures.found in
-    written_at g.N.BootName.frames c.args.path.now c.args.name.now c.args.value.now c.in-Ok.found.0 Reclaim c.args.machine.now _ _
+    written_at g.N.BootName.table c.args.path.now c.args.name.now c.args.value.now c.in-Ok.found.0 Reclaim c.args.machine.now _ _
     (subst (λ (f : File). IsFileOf c.args.machine.now.ledger.groups c.args.path.now c.args.name.now c.in-Ok.found.0 f) c.in-Reclaim.is is)
     c.write_reclaim.ensures.written

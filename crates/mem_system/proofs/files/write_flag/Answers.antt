@@ -19,5 +19,5 @@ returns-in-Ok-clause-written g c =
 pub returns-in-Err-clause-written : goal.returns-in-Err-clause-written
 returns-in-Err-clause-written g c =
     let told = c.in-Err.ensures in
-    refused_by g.N.BootName.frames OomGroup c.args.value.now c.args.group c.in-Err.fault c.args.machine.now
+    refused_by g.N.BootName.table OomGroup c.args.value.now c.args.group c.in-Err.fault c.args.machine.now
     (refused_flag c.args.value.now c.in-Err.fault told.err (λ e. told.bad_limit.0 (ap Err e)))

@@ -12,7 +12,7 @@ returns-in-Ok-clause-made g c = record {
 
 pub returns-in-Err-clause-made : goal.returns-in-Err-clause-made
 returns-in-Err-clause-made g c =
-    let t = g.N.BootName.frames in
+    let t = g.N.BootName.table in
     let m = c.args.machine.now in record {
       steps = [];
       does = (sym c.in-Err.ensures.refused, record { machine = c.in-Err.ensures.unchanged; steps_are = refl });

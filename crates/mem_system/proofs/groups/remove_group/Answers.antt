@@ -17,22 +17,22 @@ lower_usage-requires-clause-there g c =
 pub current-requires : goal.current-requires
 current-requires g c =
     let leaf = subst (λ (l : Ledger). IsLeafAt l.groups c.args.path.now c.in-Ok.group) c.charges.ensures c.in-Ok.ensures in
-    (leaf_keeps _ _ _ _ (lowered_groups g.N.BootName.frames _ _ _ _ c.lower_usage.ensures.lowers) leaf).0
+    (leaf_keeps _ _ _ _ (lowered_groups g.N.BootName.table _ _ _ _ c.lower_usage.ensures.lowers) leaf).0
 
 pub remove-requires-clause-there : goal.remove-requires-clause-there
 remove-requires-clause-there g c =
     let leaf = subst (λ (l : Ledger). IsLeafAt l.groups c.args.path.now c.in-Ok.group) c.charges.ensures c.in-Ok.ensures in
-    (leaf_keeps _ _ _ _ (lowered_groups g.N.BootName.frames _ _ _ _ c.lower_usage.ensures.lowers) leaf).0
+    (leaf_keeps _ _ _ _ (lowered_groups g.N.BootName.table _ _ _ _ c.lower_usage.ensures.lowers) leaf).0
 
 pub remove-requires-clause-leaf : goal.remove-requires-clause-leaf
 remove-requires-clause-leaf g c =
     let leaf = subst (λ (l : Ledger). IsLeafAt l.groups c.args.path.now c.in-Ok.group) c.charges.ensures c.in-Ok.ensures in
-    (leaf_keeps _ _ _ _ (lowered_groups g.N.BootName.frames _ _ _ _ c.lower_usage.ensures.lowers) leaf).1
+    (leaf_keeps _ _ _ _ (lowered_groups g.N.BootName.table _ _ _ _ c.lower_usage.ensures.lowers) leaf).1
 
 pub remove-requires-clause-held : goal.remove-requires-clause-held
 remove-requires-clause-held g c =
     let lowers = c.lower_usage.ensures.lowers in
-    held_after g.N.BootName.frames c.args.machine.now lowers.steps c.lower_usage.new.machine lowers.makes c.requires.held
+    held_after g.N.BootName.table c.args.machine.now lowers.steps c.lower_usage.new.machine lowers.makes c.requires.held
 
 pub returns-clause-removed : goal.returns-clause-removed
 returns-clause-removed g c =
@@ -49,7 +49,7 @@ returns-clause-removed g c =
         machine = c.remove.ensures.machine;
         steps_are = refl;
       };
-      makes = makes_both g.N.BootName.frames lowers.steps (remove_steps c.in-Ok.group) c.args.machine.now c.lower_usage.new.machine
+      makes = makes_both g.N.BootName.table lowers.steps (remove_steps c.in-Ok.group) c.args.machine.now c.lower_usage.new.machine
           c.remove.new.self lowers.makes c.remove.ensures.steps;
     }
 
@@ -61,5 +61,5 @@ returns-then-current-gt0-clause-removed g c = search rules
 
 pub returns-in-Err-clause-removed : goal.returns-in-Err-clause-removed
 returns-in-Err-clause-removed g c =
-    none_removed g.N.BootName.frames c.args.path.now c.in-Err.fault c.args.machine.now
+    none_removed g.N.BootName.table c.args.path.now c.in-Err.fault c.args.machine.now
     (subst (λ (l : Ledger). HasNoLeaf l.groups c.args.path.now c.in-Err.fault) c.charges.ensures c.in-Err.ensures)

@@ -17,7 +17,7 @@ pub loop-cpu-preserved : goal.loop-cpu-preserved
 loop-cpu-preserved g c =
     let inside : c.loop-cpu.cpu-index < length c.loop-cpu.cpus = search rules in
     let done = c.empty_under_lock.ensures in
-    let t = g.N.BootName.frames in (
+    let t = g.N.BootName.table in (
       so_far_more (VisitsUnderLock t Empties) _ _ _ _ _ _ c.cpu-item.result _ c.loop-cpu.invariant.0 inside done.empties,
       all_more (λ cpu. IsEmptied t c.empty_under_lock.new.machine cpu.part) c.loop-cpu.cpus c.loop-cpu.cpu-index c.empty_under_lock.new.cpu inside
           (All-weaker (λ cpu. IsEmptied t c.loop-cpu.machine cpu.part) (λ cpu. IsEmptied t c.empty_under_lock.new.machine cpu.part)
@@ -28,11 +28,11 @@ loop-cpu-preserved g c =
 pub returns-clause-empties : goal.returns-clause-empties
 returns-clause-empties g c =
     let past : length c.loop-cpu.cpus ≤ c.loop-cpu.cpu-index = search rules in
-    so_far_end (VisitsUnderLock g.N.BootName.frames Empties) _ _ _ _ _ c.loop-cpu.invariant.0 past
+    so_far_end (VisitsUnderLock g.N.BootName.table Empties) _ _ _ _ _ c.loop-cpu.invariant.0 past
 
 pub returns-clause-emptied : goal.returns-clause-emptied
 returns-clause-emptied g c =
     let past : length c.loop-cpu.cpus ≤ c.loop-cpu.cpu-index = search rules in
-    All-map (IsEmptied g.N.BootName.frames c.loop-cpu.machine) (λ (cpu : CpuInRun). cpu.part) c.loop-cpu.cpus
-    (all_taken (λ cpu. IsEmptied g.N.BootName.frames c.loop-cpu.machine cpu.part) c.loop-cpu.cpus c.loop-cpu.cpu-index past
+    All-map (IsEmptied g.N.BootName.table c.loop-cpu.machine) (λ (cpu : CpuInRun). cpu.part) c.loop-cpu.cpus
+    (all_taken (λ cpu. IsEmptied g.N.BootName.table c.loop-cpu.machine cpu.part) c.loop-cpu.cpus c.loop-cpu.cpu-index past
     c.loop-cpu.invariant.1)

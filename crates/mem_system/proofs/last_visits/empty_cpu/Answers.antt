@@ -9,7 +9,7 @@ use Rattle.mem_system.proofs.last_visits.empty_cpu.Goals as goal
 
 pub drain_stock-requires-clause-cpu : goal.drain_stock-requires-clause-cpu
 drain_stock-requires-clause-cpu g c =
-    let t = g.N.BootName.frames in
+    let t = g.N.BootName.table in
     subst (IsCpuOf t) (sym c.number.ensures.number) (number_range t c.drain_list.new.self c.drain_list.new.cpu c.drain_list.ensures.visit)
 
 pub drain_stock-requires-clause-held : goal.drain_stock-requires-clause-held
@@ -29,7 +29,7 @@ prove_none_lent-requires-clause-none_fresh g c = (cut_off _ _ _ _ _ c.drain_list
 
 pub returns : goal.returns
 returns g c =
-    let t = g.N.BootName.frames in
+    let t = g.N.BootName.table in
     let m = c.args.machine.now in
     let n = c.shut.new.self in
     let first = c.args.cpu.now in

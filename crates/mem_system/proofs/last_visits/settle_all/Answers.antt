@@ -14,7 +14,7 @@ pub loop-cpu-preserved : goal.loop-cpu-preserved
 loop-cpu-preserved g c =
     let inside : c.loop-cpu.cpu-index < length c.loop-cpu.cpus = search rules in
     let done = c.settle_under_lock.ensures in (
-      so_far_more (VisitsUnderLock g.N.BootName.frames SettlesInVisit) _ _ _ _ _ _ c.cpu-item.result _ c.loop-cpu.invariant.0 inside done.settles,
+      so_far_more (VisitsUnderLock g.N.BootName.table SettlesInVisit) _ _ _ _ _ _ c.cpu-item.result _ c.loop-cpu.invariant.0 inside done.settles,
       all_more (λ cpu. IsSettledUnpinned cpu.part) c.loop-cpu.cpus c.loop-cpu.cpu-index c.settle_under_lock.new.cpu inside c.loop-cpu.invariant.1 done.settled,
       done.rests,
     )
@@ -22,7 +22,7 @@ loop-cpu-preserved g c =
 pub returns-clause-settles : goal.returns-clause-settles
 returns-clause-settles g c =
     let past : length c.loop-cpu.cpus ≤ c.loop-cpu.cpu-index = search rules in
-    so_far_end (VisitsUnderLock g.N.BootName.frames SettlesInVisit) _ _ _ _ _ c.loop-cpu.invariant.0 past
+    so_far_end (VisitsUnderLock g.N.BootName.table SettlesInVisit) _ _ _ _ _ c.loop-cpu.invariant.0 past
 
 pub returns-clause-settled : goal.returns-clause-settled
 returns-clause-settled g c =

@@ -6,5 +6,5 @@ use Rattle.mem_system.proofs.InTurns.{SoFar}
 use Rattle.mem_system.proofs.last_visits.settle_all.Given as goal
 
 abbrev pub invariant-loop-cpu : goal.invariant-loop-cpu
-invariant-loop-cpu g l = SoFar (VisitsUnderLock g.N.BootName.frames SettlesInVisit) l.cpu-index l.fn.machine l.fn.cpus l.machine l.cpus
-    × All (λ cpu. IsSettledUnpinned cpu.part) (take l.cpu-index l.cpus) × Rests g.N.BootName.frames l.machine
+invariant-loop-cpu g l = SoFar (VisitsUnderLock g.N.BootName.table SettlesInVisit) l.cpu-index l.fn.machine l.fn.cpus l.machine l.cpus
+    × All (λ cpu. IsSettledUnpinned cpu.part) (take l.cpu-index l.cpus) × Rests g.N.BootName.table l.machine

@@ -8,9 +8,9 @@ use Rattle.mem_system.proofs.owners.report_place.Goals as goal
 
 pub returns-in-Charged-clause-place : goal.returns-in-Charged-clause-place
 returns-in-Charged-clause-place g c =
-    let inside : c.unwrap-frame.result < g.N.BootName.frames.frames = search rules in
+    let inside : c.unwrap-frame.result < g.N.BootName.table.frames = search rules in
     let legal = subst AreCharges c.charges.ensures c.prove_charges.ensures.legal in
-    let there = keeper_there g.N.BootName.frames c.args.machine.now c.unwrap-frame.result c.in-Charged.group
+    let there = keeper_there g.N.BootName.table c.args.machine.now c.unwrap-frame.result c.in-Charged.group
     c.in-Charged.ensures.consistent legal inside (sym c.in-Charged.ensures.place) in
     let same : c.unwrap-frame.result ≡ c.args.frame = search rules in (
       subst (λ (f : ℕ). place_of (frame_state_at c.args.machine.now.frame_states f) ≡ place.Charged c.in-Charged.group) same (sym c.in-Charged.ensures.place),
@@ -19,9 +19,9 @@ returns-in-Charged-clause-place g c =
 
 pub returns-in-Charged-clause-groups : goal.returns-in-Charged-clause-groups
 returns-in-Charged-clause-groups g c =
-    let inside : c.unwrap-frame.result < g.N.BootName.frames.frames = search rules in
+    let inside : c.unwrap-frame.result < g.N.BootName.table.frames = search rules in
     let legal = subst AreCharges c.charges.ensures c.prove_charges.ensures.legal in
-    keeper_there g.N.BootName.frames c.args.machine.now c.unwrap-frame.result c.in-Charged.group c.in-Charged.ensures.consistent legal
+    keeper_there g.N.BootName.table c.args.machine.now c.unwrap-frame.result c.in-Charged.group c.in-Charged.ensures.consistent legal
     inside (sym c.in-Charged.ensures.place)
 
 pub returns-in-Lent-clause-place : goal.returns-in-Lent-clause-place

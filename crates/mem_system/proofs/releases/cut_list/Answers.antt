@@ -36,7 +36,7 @@ returns-else-list_len-sizes-clause-cuts g c =
     let below : length c.args.cpu.now.list < c.args.sizes.high = omega (arith, c.list_len.ensures.count) in record {
       steps = [];
       does = record { cut = []; at_high = λ stands. absurd (omega (arith, stands, below)); below_high = λ _. refl; takes = record { machine = refl; cpu = refl }; steps_are = refl };
-      makes = makes_none g.N.BootName.frames c.args.machine.now;
+      makes = makes_none g.N.BootName.table c.args.machine.now;
     }
 
 pub returns-else-list_len-sizes-clause-below_high : goal.returns-else-list_len-sizes-clause-below_high

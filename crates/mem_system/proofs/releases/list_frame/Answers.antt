@@ -1,6 +1,6 @@
 use Rattle.std.proofs.Common.{◌≡◌, ℕ, [], ◌∷◌, ◌++◌, length, ap, refl, ◌∙◌, subst, arith}
 use Rattle.std.proofs.lemmas.List.{length-append}
-use Rattle.cpu_part.specs.Cpus.{KnownCpu}
+use Rattle.cpu_part.specs.Cpus.{KnownCpuLists}
 use Rattle.mem_machine.specs.{Makes, visit_state, lend_steps}
 use Rattle.mem_system.proofs.Listing.{cut_off}
 use Rattle.mem_system.proofs.releases.list_frame.Goals as goal
@@ -18,7 +18,7 @@ lend-requires-clause-room g c =
 
 pub returns-clause-lists : goal.returns-clause-lists
 returns-clause-lists g c =
-    let t = g.N.BootName.frames in
+    let t = g.N.BootName.table in
     let cuts = c.cut_list.ensures.cuts in
     let p = c.args.cpu.now.number in
     let m = c.args.machine.now in
@@ -42,15 +42,15 @@ returns-clause-stays g c =
     let kept = cut_off _ _ _ _ _ c.cut_list.ensures.cuts.does.takes in
     record {
       visit = c.lend.ensures.visit;
-      number = ap (λ (e : KnownCpu). e.number) c.lend.ensures.lends.cpu ∙ kept.number;
-      back = ap (λ (e : KnownCpu). e.back) c.lend.ensures.lends.cpu ∙ kept.back;
+      number = ap (λ (e : KnownCpuLists). e.number) c.lend.ensures.lends.cpu ∙ kept.number;
+      back = ap (λ (e : KnownCpuLists). e.back) c.lend.ensures.lends.cpu ∙ kept.back;
     }
 
 pub returns-clause-fresh : goal.returns-clause-fresh
 returns-clause-fresh g c =
-    ap (λ (e : KnownCpu). e.fresh) c.lend.ensures.lends.cpu ∙ (cut_off _ _ _ _ _ c.cut_list.ensures.cuts.does.takes).fresh
+    ap (λ (e : KnownCpuLists). e.fresh) c.lend.ensures.lends.cpu ∙ (cut_off _ _ _ _ _ c.cut_list.ensures.cuts.does.takes).fresh
 
 pub returns-clause-at_most_high : goal.returns-clause-at_most_high
 returns-clause-at_most_high g c =
-    let longer = ap (λ (e : KnownCpu). length e.list) c.lend.ensures.lends.cpu ∙ length-append c.cut_list.new.cpu.list (c.args.frame ∷ []) in
+    let longer = ap (λ (e : KnownCpuLists). length e.list) c.lend.ensures.lends.cpu ∙ length-append c.cut_list.new.cpu.list (c.args.frame ∷ []) in
     λ within. let below = c.cut_list.ensures.below_high within in omega (arith, longer, below)

@@ -10,7 +10,7 @@ use Rattle.mem_system.proofs.releases.release_frame.Goals as goal
 
 pub returns-after-is_single-clause-released : goal.returns-after-is_single-clause-released
 returns-after-is_single-clause-released g c =
-    let t = g.N.BootName.frames in
+    let t = g.N.BootName.table in
     let m = c.args.machine.now in
     let before = c.args.cpu.now in
     let sizes = c.args.sizes in
@@ -29,7 +29,7 @@ returns-in-Left-clause-released g c = search rules
 
 pub returns-after-is_single-clause-stays : goal.returns-after-is_single-clause-stays
 returns-after-is_single-clause-stays g c =
-    let t = g.N.BootName.frames in
+    let t = g.N.BootName.table in
     elim c.if-is_single.branch [
       | then-is_single w ↦
           let last = w.list_frame.ensures.stays in

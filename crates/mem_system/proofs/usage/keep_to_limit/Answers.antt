@@ -12,16 +12,16 @@ lower_usage-requires-clause-there g c = ap (λ (x : KnownMachine). has_group x.l
 
 pub lower_usage-requires-clause-held : goal.lower_usage-requires-clause-held
 lower_usage-requires-clause-held g c =
-    limit_held g.N.BootName.frames c.args.group 0 c.args.machine.now c.note_limit.new.machine c.note_limit.ensures c.requires.held
+    limit_held g.N.BootName.table c.args.group 0 c.args.machine.now c.note_limit.new.machine c.note_limit.ensures c.requires.held
 
 pub kill_for-requires-clause-there : goal.kill_for-requires-clause-there
 kill_for-requires-clause-there g c =
-    ap (λ (x : List Group). has_group x c.args.group) (lowered_groups g.N.BootName.frames c.args.group c.args.limit _ _ c.lower_usage.ensures.lowers)
+    ap (λ (x : List Group). has_group x c.args.group) (lowered_groups g.N.BootName.table c.args.group c.args.limit _ _ c.lower_usage.ensures.lowers)
     ∙ ap (λ (x : KnownMachine). has_group x.ledger.groups c.args.group) c.note_limit.ensures ∙ c.requires.there
 
 pub kill_for-requires-clause-held : goal.kill_for-requires-clause-held
 kill_for-requires-clause-held g c =
-    let t = g.N.BootName.frames in
+    let t = g.N.BootName.table in
     let lowers = c.lower_usage.ensures.lowers in
     held_after t c.note_limit.new.machine lowers.steps c.lower_usage.new.machine lowers.makes
     (limit_held t c.args.group 0 c.args.machine.now c.note_limit.new.machine c.note_limit.ensures c.requires.held)
@@ -30,7 +30,7 @@ pub returns-then-limit-current-clause-lowers : goal.returns-then-limit-current-c
 returns-then-limit-current-clause-lowers g c =
     let over = c.if-limit-current.true in
     let same = c.current.ensures in
-    lowered_above g.N.BootName.frames c.args.group c.args.limit c.args.machine.now c.note_limit.new.machine
+    lowered_above g.N.BootName.table c.args.group c.args.limit c.args.machine.now c.note_limit.new.machine
     c.lower_usage.new.machine c.kill_for.new.machine (omega (arith, over, same)) c.note_limit.ensures c.lower_usage.ensures.lowers
     c.kill_for.ensures.kills
 
@@ -38,9 +38,9 @@ pub returns-else-limit-current-clause-lowers : goal.returns-else-limit-current-c
 returns-else-limit-current-clause-lowers g c =
     let within = c.if-limit-current.false in
     let same = c.current.ensures in
-    lowered_none g.N.BootName.frames c.args.group c.args.limit c.args.machine.now (omega (arith, within, same))
+    lowered_none g.N.BootName.table c.args.group c.args.limit c.args.machine.now (omega (arith, within, same))
 
 pub returns-then-limit-current-clause-visit : goal.returns-then-limit-current-clause-visit
 returns-then-limit-current-clause-visit g c = λ y v.
     c.kill_for.ensures.visit y (c.lower_usage.ensures.visit y
-    (limit_visits g.N.BootName.frames c.args.group 0 c.args.machine.now c.note_limit.new.machine c.note_limit.ensures y v))
+    (limit_visits g.N.BootName.table c.args.group 0 c.args.machine.now c.note_limit.new.machine c.note_limit.ensures y v))

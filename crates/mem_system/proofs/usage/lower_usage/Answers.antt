@@ -9,7 +9,7 @@ use Rattle.mem_system.proofs.usage.lower_usage.Goals as goal
 
 pub reclaim_to_limit-requires : goal.reclaim_to_limit-requires
 reclaim_to_limit-requires g c =
-    let t = g.N.BootName.frames in
+    let t = g.N.BootName.table in
     let sub = c.drain_stocks.ensures.drains in
     let same = (drains_leave t (of_subtree c.args.group) t.cpus c.args.machine.now c.drain_stocks.new.self sub.drains sub.all).groups in
     record {
@@ -19,7 +19,7 @@ reclaim_to_limit-requires g c =
 
 pub returns-clause-lowers : goal.returns-clause-lowers
 returns-clause-lowers g c =
-    lowered_by g.N.BootName.frames c.args.group c.args.limit c.drain_stocks.result c.reclaim_to_limit.result
+    lowered_by g.N.BootName.table c.args.group c.args.limit c.drain_stocks.result c.reclaim_to_limit.result
     c.args.machine.now
     c.drain_stocks.new.self c.reclaim_to_limit.new.machine c.drain_stocks.ensures.drains c.drain_stocks.ensures.drained
     c.reclaim_to_limit.ensures.rounds c.reclaim_to_limit.ensures.missed c.reclaim_to_limit.ensures.keeps

@@ -18,8 +18,8 @@ use Rattle.mem_system.proofs.visits.serve_frame_outcome.Goals as goal
 use Rattle.mem_system.proofs.visits.serve_frame_outcome.Goals.{After-settle, After-unlock}
 
 -- the calls of the visit, one after the other
-visit : (g : given.Over) (c : After-unlock g) → GoesThrough g.N.BootName.frames c.locked.inside.machine c.cpu.inside.part c.cpu.inside.past
-    c.alloc_frame-answer.ensures.allocates.steps c.unlock.new.self c.alloc_frame-answer.new.cpu c.unlock.new.past
+visit : (g : given.Over) (c : After-unlock g) → GoesThrough g.N.BootName.table c.locked.inside.machine c.cpu.inside.part c.cpu.inside.past
+    c.alloc_frame-answer.ensures.allocates.steps c.unlock.new.self c.alloc_frame-answer.new.cpu c.unlock.new.seat
 visit g c = record {
   found = c.lock.new.self;
   begun = c.forget_notes.new.self;
@@ -52,7 +52,7 @@ visit g c = record {
 -- settling leaves the groups that were found
 groups_found : (g : given.Over) (c : After-settle g) → c.settle.new.self.ledger.groups ≡ c.args.locked.now.machine.ledger.groups
 groups_found g c =
-    settled_groups g.N.BootName.frames _ _ _ _ c.settle.ensures.settles
+    settled_groups g.N.BootName.table _ _ _ _ c.settle.ensures.settles
     ∙ ap (λ (y : KnownMachine). y.ledger.groups) c.open.ensures.machine ∙ ap (λ (y : KnownMachine). y.ledger.groups) c.forget_notes.ensures
     ∙ ap (λ (y : KnownMachine). y.ledger.groups) c.lock.ensures.machine ∙ ap (λ (y : KnownLocked). y.machine.ledger.groups) c.locked.view_is
 
@@ -63,10 +63,10 @@ pub lock-requires-clause-knows : goal.lock-requires-clause-knows
 lock-requires-clause-knows g c = c.cpu.invariant
 
 pub open-requires-clause-holds : goal.open-requires-clause-holds
-open-requires-clause-holds g c = forgotten_holds g.N.BootName.frames c.lock.new.self c.forget_notes.new.self c.cpu.inside.part c.forget_notes.ensures c.lock.ensures.holds
+open-requires-clause-holds g c = forgotten_holds g.N.BootName.table c.lock.new.self c.forget_notes.new.self c.cpu.inside.part c.forget_notes.ensures c.lock.ensures.holds
 
 pub open-requires-clause-shut : goal.open-requires-clause-shut
-open-requires-clause-shut g c = forgotten_shut g.N.BootName.frames c.lock.new.self c.forget_notes.new.self c.cpu.inside.part.number c.forget_notes.ensures c.lock.ensures.shut
+open-requires-clause-shut g c = forgotten_shut g.N.BootName.table c.lock.new.self c.forget_notes.new.self c.cpu.inside.part.number c.forget_notes.ensures c.lock.ensures.shut
 
 pub unlock-requires-clause-number : goal.unlock-requires-clause-number
 unlock-requires-clause-number g c =
@@ -100,7 +100,7 @@ invariant_of-cpu g c = c.unlock.ensures.knows
 
 pub invariant_of-locked : goal.invariant_of-locked
 invariant_of-locked g c =
-    let t = g.N.BootName.frames in
+    let t = g.N.BootName.table in
     let quiet = c.locked.invariant.quiet in
     let rests = c.unlock.ensures.rests in
     record {
@@ -108,7 +108,7 @@ invariant_of-locked g c =
         shut = resting_shut t c.unlock.new.self rests;
         rests = rests;
         counted = counted t c.locked.inside.machine c.cpu.inside.part c.cpu.inside.past c.alloc_frame-answer.ensures.allocates.steps c.unlock.new.self
-            c.alloc_frame-answer.new.cpu c.unlock.new.past (visit g (goal.at.invariant_of-locked g c).After-unlock) quiet.rests quiet.counted rests;
+            c.alloc_frame-answer.new.cpu c.unlock.new.seat (visit g (goal.at.invariant_of-locked g c).After-unlock) quiet.rests quiet.counted rests;
         valid = quiet.valid;
         sized = quiet.sized;
       };
@@ -121,7 +121,7 @@ returns-clause-back g c = c.alloc_frame-answer.ensures.stays.back ∙ c.settle.e
 pub returns-clause-served : goal.returns-clause-served
 unfolding visit
 returns-clause-served g c path at =
-    let t = g.N.BootName.frames in
+    let t = g.N.BootName.table in
     let x = c.alloc_frame-answer.new.machine in
     let d = c.alloc_frame-answer.new.cpu in
     let answer = c.alloc_frame-answer.result in
@@ -136,16 +136,16 @@ returns-clause-served g c path at =
     ap (λ (gs : List Group). number_at gs path.now) (groups_found g (goal.at.returns-clause-served g c).After-settle) ∙ at in
     let executed = frame_allocated t c.locked.inside.sizes path.now c.args.group c.settle.new.self x c.settle.new.cpu d answer
     c.alloc_frame-answer.ensures.allocates found in
-    subst (λ (z : ReplyWithText × KnownLocked × CpuInRun). IsServed t (Alloc path 0) z.0 (locked_state z.1 z.2) (locked_state k (cpu_in_run d c.unlock.new.past)))
+    subst (λ (z : ReplyWithText × KnownLocked × CpuInRun). IsServed t (Alloc path 0) z.0 (locked_state z.1 z.2) (locked_state k (cpu_in_run d c.unlock.new.seat)))
     (λ i. (sym told i, c.locked.view_is i, c.cpu.view_is i))
-    (served t (Alloc path 0) reply l k c.cpu.inside.part c.cpu.inside.past c.alloc_frame-answer.ensures.allocates.steps d c.unlock.new.past
+    (served t (Alloc path 0) reply l k c.cpu.inside.part c.cpu.inside.past c.alloc_frame-answer.ensures.allocates.steps d c.unlock.new.seat
     (visit g (goal.at.returns-clause-served g c).After-unlock) refl executed)
 
 pub returns-clause-groups : goal.returns-clause-groups
 returns-clause-groups g c =
     let x = c.alloc_frame-answer.new.machine in
     let answer = c.alloc_frame-answer.result in
-    let has = has_groups x.ledger answer (over_is_there g.N.BootName.frames c.locked.inside.sizes c.args.group c.settle.new.self x c.settle.new.cpu
+    let has = has_groups x.ledger answer (over_is_there g.N.BootName.table c.locked.inside.sizes c.args.group c.settle.new.self x c.settle.new.cpu
     c.alloc_frame-answer.new.cpu answer c.alloc_frame-answer.ensures.allocates) in
     let kept = ap (λ (y : KnownMachine). y.ledger) c.unlock.ensures.machine ∙ ap (λ (y : KnownMachine). y.ledger) c.shut.ensures.machine in
     rw c.outcome_of.ensures (subst (λ (l : Ledger). HasItsGroups l (outcome_of answer)) (sym kept) has)
@@ -164,4 +164,4 @@ returns-clause-ends g c =
     }
 
 pub returns-clause-lost : goal.returns-clause-lost
-returns-clause-lost g c = no_unit_is_lost g.N.BootName.frames c.unlock.new.self c.prove_consistent.ensures c.unlock.ensures.rests
+returns-clause-lost g c = no_unit_is_lost g.N.BootName.table c.unlock.new.self c.prove_consistent.ensures c.unlock.ensures.rests

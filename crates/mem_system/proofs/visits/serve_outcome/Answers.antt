@@ -10,8 +10,8 @@ use Rattle.mem_system.proofs.visits.serve_outcome.Goals as goal
 use Rattle.mem_system.proofs.visits.serve_outcome.Goals.{After-unlock}
 
 -- the calls of the visit, one after the other
-visit : (g : given.Over) (c : After-unlock g) → GoesThrough g.N.BootName.frames c.locked.inside.machine c.cpu.inside.part c.cpu.inside.past
-    c.execute-outcome.ensures.executed.steps c.unlock.new.self c.execute-outcome.new.cpu c.unlock.new.past
+visit : (g : given.Over) (c : After-unlock g) → GoesThrough g.N.BootName.table c.locked.inside.machine c.cpu.inside.part c.cpu.inside.past
+    c.execute-outcome.ensures.executed.steps c.unlock.new.self c.execute-outcome.new.cpu c.unlock.new.seat
 visit g c = record {
   found = c.lock.new.self;
   begun = c.forget_notes.new.self;
@@ -42,10 +42,10 @@ visit g c = record {
 }
 
 pub open-requires-clause-holds : goal.open-requires-clause-holds
-open-requires-clause-holds g c = forgotten_holds g.N.BootName.frames c.lock.new.self c.forget_notes.new.self c.cpu.inside.part c.forget_notes.ensures c.lock.ensures.holds
+open-requires-clause-holds g c = forgotten_holds g.N.BootName.table c.lock.new.self c.forget_notes.new.self c.cpu.inside.part c.forget_notes.ensures c.lock.ensures.holds
 
 pub open-requires-clause-shut : goal.open-requires-clause-shut
-open-requires-clause-shut g c = forgotten_shut g.N.BootName.frames c.lock.new.self c.forget_notes.new.self c.cpu.inside.part.number c.forget_notes.ensures c.lock.ensures.shut
+open-requires-clause-shut g c = forgotten_shut g.N.BootName.table c.lock.new.self c.forget_notes.new.self c.cpu.inside.part.number c.forget_notes.ensures c.lock.ensures.shut
 
 pub unlock-requires-clause-number : goal.unlock-requires-clause-number
 unlock-requires-clause-number g c =
@@ -54,7 +54,7 @@ unlock-requires-clause-number g c =
 
 pub invariant_of-locked : goal.invariant_of-locked
 invariant_of-locked g c =
-    let t = g.N.BootName.frames in
+    let t = g.N.BootName.table in
     let quiet = c.locked.invariant.quiet in
     let rests = c.unlock.ensures.rests in
     record {
@@ -62,7 +62,7 @@ invariant_of-locked g c =
         shut = resting_shut t c.unlock.new.self rests;
         rests = rests;
         counted = counted t c.locked.inside.machine c.cpu.inside.part c.cpu.inside.past c.execute-outcome.ensures.executed.steps c.unlock.new.self
-            c.execute-outcome.new.cpu c.unlock.new.past (visit g (goal.at.invariant_of-locked g c).After-unlock) quiet.rests quiet.counted rests;
+            c.execute-outcome.new.cpu c.unlock.new.seat (visit g (goal.at.invariant_of-locked g c).After-unlock) quiet.rests quiet.counted rests;
         valid = quiet.valid;
         sized = quiet.sized;
       };
@@ -72,7 +72,7 @@ invariant_of-locked g c =
 pub returns : goal.returns
 unfolding visit
 returns g c =
-    let t = g.N.BootName.frames in
+    let t = g.N.BootName.table in
     let d = c.execute-outcome.new.cpu in
     let l : KnownLocked = record { machine = c.locked.inside.machine; sizes = c.locked.inside.sizes } in
     let k : KnownLocked = record { machine = c.unlock.new.self; sizes = c.locked.inside.sizes } in
@@ -84,9 +84,9 @@ returns g c =
     let told : reply_of k.machine.ledger c.execute-outcome.result ≡ reply = ap (λ (l : Ledger). reply_of l c.execute-outcome.result) kept in
     rw told record {
       groups = subst (λ (l : Ledger). HasItsGroups l c.execute-outcome.result) (sym kept) c.execute-outcome.ensures.groups;
-      served = subst (λ (y : KnownLocked × CpuInRun). IsServed t c.args.cmd.now reply (locked_state y.0 y.1) (locked_state k (cpu_in_run d c.unlock.new.past)))
+      served = subst (λ (y : KnownLocked × CpuInRun). IsServed t c.args.cmd.now reply (locked_state y.0 y.1) (locked_state k (cpu_in_run d c.unlock.new.seat)))
           (λ i. (c.locked.view_is i, c.cpu.view_is i))
-          (served t c.args.cmd.now reply l k c.cpu.inside.part c.cpu.inside.past executed.steps d c.unlock.new.past
+          (served t c.args.cmd.now reply l k c.cpu.inside.part c.cpu.inside.past executed.steps d c.unlock.new.seat
           (visit g (goal.at.returns g c).After-unlock) refl executed.does);
       settled = (c.execute-outcome.ensures.fresh, stays.back ∙ c.settle.ensures.none_back);
       ends = record {

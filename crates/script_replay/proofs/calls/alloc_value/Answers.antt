@@ -11,9 +11,9 @@ returns-clause-answer g c path is =
     let cpus = c.args.cpus.now in
     let at = c.args.cpu - 1 in
     let part : CpuInRun = get_or cpus at c.index-cpus-at.result in
-    let frames = g.N.BootName.frames.frames in
+    let frames = g.N.BootName.table.frames in
     let there : CpuCommandInRange frames (length cpus) c.args.cpu (Alloc path 0) = record { low = c.requires.low; high = c.requires.high; names = tt } in
-    command_said g.N.BootName.frames c.args.locked.now c.serve_frame_of-value.new.locked cpus c.args.cpu (Alloc path 0)
+    command_said g.N.BootName.table c.args.locked.now c.serve_frame_of-value.new.locked cpus c.args.cpu (Alloc path 0)
     part c.serve_frame_of-value.new.cpu _ tt
     (part_of cpus frames c.args.cpu (Alloc path 0) part there (ap (λ (d : CpuInRun). get_or cpus at d) c.index-cpus-at.is))
     (c.serve_frame_of-value.ensures.answer path is) c.prove_sound.ensures

@@ -18,7 +18,7 @@ serve_frame_outcome-outcome-requires g c = record {
 
 pub returns : goal.returns
 returns g c =
-    let t = g.N.BootName.frames in
+    let t = g.N.BootName.table in
     let found = c.begin_command.new.locked in
     let served = c.serve_frame_outcome-outcome in
     let before = c.args.locked.now in

@@ -6,7 +6,7 @@ use Rattle.script_replay.proofs.locked_commands.serve_under_lock.Goals as goal
 
 pub returns : goal.returns
 returns g c =
-    let t = g.N.BootName.frames in
+    let t = g.N.BootName.table in
     let found = c.begin_command.new.locked in
     let served = c.serve_locked-value in
     let before = c.args.locked.now in

@@ -5,5 +5,5 @@ use Rattle.script_replay.proofs.replays.replay.Given as goal
 
 abbrev pub invariant-loop-line : goal.invariant-loop-line
 invariant-loop-line g l =
-    ServesAll (form_terms g.N.BootName.frames l.form) (take l.line-index l.lines)
+    ServesAll (form_terms g.N.BootName.table l.form) (take l.line-index l.lines)
     (system_state l.initial.locked l.initial.cpus) (system_state l.locked l.cpus) (string_bytes l.answers)

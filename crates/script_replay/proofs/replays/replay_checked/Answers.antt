@@ -9,7 +9,7 @@ use Rattle.script_replay.proofs.replays.replay_checked.Goals as goal
 
 pub loop-next-preserved : goal.loop-next-preserved
 loop-next-preserved g c = (
-  in_order_line (ServesLine (form_terms g.N.BootName.frames c.args.form)) (system_state c.args.locked.now c.args.cpus.now)
+  in_order_line (ServesLine (form_terms g.N.BootName.table c.args.form)) (system_state c.args.locked.now c.args.cpus.now)
       (system_state c.loop-next.locked c.loop-next.cpus) (system_state c.serve_in_form.new.locked c.serve_in_form.new.cpus)
       c.args.lines.now c.loop-next.next-index _ (string_bytes c.loop-next.answers) (string_bytes c.serve_in_form.new.answers) c.loop-next-test.true
       c.loop-next.invariant.0 c.in_ok-serve_in_form.ensures.served.text c.in_ok-serve_in_form.ensures.served.so c.in_ok-serve_in_form.ensures.served.added,
@@ -24,7 +24,7 @@ returns-in_err-serve_in_form g c =
       outcome = record {
         replayed = tt;
         stopped = record {
-          stops = keeps_stop (form_terms g.N.BootName.frames c.args.form) (system_state c.args.locked.now c.args.cpus.now)
+          stops = keeps_stop (form_terms g.N.BootName.table c.args.form) (system_state c.args.locked.now c.args.cpus.now)
               (system_state c.loop-next.locked c.loop-next.cpus) (system_state c.serve_in_form.new.locked c.serve_in_form.new.cpus)
               c.args.lines.now c.loop-next.next-index _ (string_bytes c.loop-next.answers) served.text c.loop-next-test.true
               c.loop-next.invariant.0 served.so;
@@ -38,7 +38,7 @@ returns-then-not-is_legal g c =
     let served = c.serve_in_form.ensures.served in record {
       outcome = record {
         replayed = tt;
-        stopped = stops_illegal (form_terms g.N.BootName.frames c.args.form) (system_state c.args.locked.now c.args.cpus.now)
+        stopped = stops_illegal (form_terms g.N.BootName.table c.args.form) (system_state c.args.locked.now c.args.cpus.now)
             (system_state c.loop-next.locked c.loop-next.cpus) (system_state c.serve_in_form.new.locked c.serve_in_form.new.cpus)
             c.args.lines.now c.loop-next.next-index _ (string_bytes c.loop-next.answers) served.text c.loop-next-test.true
             c.loop-next.invariant.0 served.so c.loop-next.invariant.1 (search rules) c.number_of.result c.number_of.ensures;
@@ -47,7 +47,7 @@ returns-then-not-is_legal g c =
 
 pub returns : goal.returns
 returns g c =
-    let on = form_terms g.N.BootName.frames c.args.form in
+    let on = form_terms g.N.BootName.table c.args.form in
     let first : SystemState = system_state c.args.locked.now c.args.cpus.now in
     let last : SystemState = system_state c.loop-next.locked c.loop-next.cpus in
     let all : ServesAll on c.args.lines.now first last c.into_bytes.result.items =

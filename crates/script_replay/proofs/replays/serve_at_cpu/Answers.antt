@@ -8,7 +8,7 @@ pub write_answer-written-requires : goal.write_answer-written-requires
 write_answer-written-requires g c = let served = c.serve_command-value in record {
   in_range = c.requires.in_range;
   groups = served.ensures.groups;
-  settles = λ is. value_settles (terms g.N.BootName.frames c.args.is_explained) c.args.command.now
+  settles = λ is. value_settles (terms g.N.BootName.table c.args.is_explained) c.args.command.now
       (locked_state c.args.locked.now c.args.cpu.now) (locked_state served.new.locked served.new.cpu) served.new.locked.machine.ledger served.result
       served.ensures.answer is;
   last = served.ensures.last;
@@ -19,7 +19,7 @@ returns-clause-answered g c =
     let served = c.serve_command-value in
     let said = c.write_answer-written in
     let cpu = served.new.cpu in
-    subst (λ (l : KnownLocked). AddsText said.result c.args.answers.now said.new.text (ServesCommand (terms g.N.BootName.frames c.args.is_explained) c.args.command.now
+    subst (λ (l : KnownLocked). AddsText said.result c.args.answers.now said.new.text (ServesCommand (terms g.N.BootName.table c.args.is_explained) c.args.command.now
     (locked_state c.args.locked.now c.args.cpu.now) (locked_state l cpu))) (sym said.ensures.stays) (record {
       text = said.ensures.told.text;
       so = record {

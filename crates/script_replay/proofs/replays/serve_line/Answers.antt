@@ -6,13 +6,13 @@ use Rattle.script_replay.proofs.replays.serve_line.Goals as goal
 
 pub returns-in-Go : goal.returns-in-Go
 returns-in-Go g c = record {
-  served = go_keeps g.N.BootName.frames c.args.is_explained c.args.locked.now c.args.cpus.now (Ok tt) c.args.answers.now c.args.line.now
+  served = go_keeps g.N.BootName.table c.args.is_explained c.args.locked.now c.args.cpus.now (Ok tt) c.args.answers.now c.args.line.now
       c.in-Go.is c.prove_sound.ensures;
 }
 
 pub returns-in-At : goal.returns-in-At
 returns-in-At g c = record {
-  served = part_read (terms g.N.BootName.frames c.args.is_explained) c.args.locked.now c.serve_at_cpu.new.locked c.args.cpus.now
+  served = part_read (terms g.N.BootName.table c.args.is_explained) c.args.locked.now c.serve_at_cpu.new.locked c.args.cpus.now
       c.args.line.now c.in-At.cpu c.in-At.command
       (get_or c.args.cpus.now (c.in-At.cpu - 1) c.index-cpus-at.result) c.serve_at_cpu.new.cpu _ c.args.answers.now
       c.serve_at_cpu.new.answers refl c.in-At.is c.requires.there

@@ -10,6 +10,6 @@ returns-in-Some-clause-answer g c =
     let path = c.in-Some.path in
     let served = c.serve_frame in
     let found : frame_path c.args.command.now ≡ Some path = search rules in
-    subst (λ (x : Command). ServesAnswer (terms g.N.BootName.frames c.args.is_explained) x
+    subst (λ (x : Command). ServesAnswer (terms g.N.BootName.table c.args.is_explained) x
     (locked_state c.args.locked.now c.args.cpu.now) (locked_state served.new.locked served.new.cpu)
     (answer_of served.new.locked.machine.ledger served.result)) (sym (frame_is c.args.command.now path found)) served.ensures.answer

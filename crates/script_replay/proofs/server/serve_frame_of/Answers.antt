@@ -4,7 +4,7 @@ use Rattle.group_tree.specs.Groups.{number_at}
 use Rattle.mem_system.specs.{KnownLocked, locked_state}
 use Rattle.reply_texts.specs.declared.steps.UnlockedAnswer.TheVariants as unlocked
 use Rattle.script_lines.specs.declared.line.Command.TheVariants.{Alloc, Fast}
-use Rattle.script_replay.specs.{OnlyWatched, steps_alone, terms, answer_of}
+use Rattle.script_replay.specs.{OnlyWatched, steps_unlocked, terms, answer_of}
 use Rattle.script_replay.proofs.Gaining.{watched_gains}
 use Rattle.script_replay.proofs.Serving.{lock_served, none_got, then_watched}
 use Rattle.script_replay.proofs.server.serve_frame_of.Goals as goal
@@ -20,17 +20,17 @@ returns-in-Got-clause-answer g c path is =
     let number = c.args.cpu.now.part.number in
     let before = locked_state l c.args.cpu.now in
     let left = c.alloc_in_order.new.cpu in
-    let watched : OnlyWatched (steps_alone c.number-cpu_number.result (Fast group) said) mid m = c.watch_paid.ensures in record {
-      steps = steps_alone number (Fast group) said;
+    let watched : OnlyWatched (steps_unlocked c.number-cpu_number.result (Fast group) said) mid m = c.watch_paid.ensures in record {
+      steps = steps_unlocked number (Fast group) said;
       answered = record {
         gets = record { group = group; found = is; got = c.in-Got.ensures.answer };
-        alone = record {
-          locked = then_watched g.N.BootName.frames l mid m c.number-cpu_number.result number c.number-cpu_number.ensures.number (λ (n : ℕ). steps_alone n (Fast group) said)
+        takes_no_lock = record {
+          locked = then_watched g.N.BootName.table l mid m c.number-cpu_number.result number c.number-cpu_number.ensures.number (λ (n : ℕ). steps_unlocked n (Fast group) said)
               c.in-Got.ensures.only_saw watched;
           steps_are = refl;
         };
       };
-      gains = watched_gains (steps_alone number (Fast group) said) (steps_alone c.number-cpu_number.result (Fast group) said) before mid m left
+      gains = watched_gains (steps_unlocked number (Fast group) said) (steps_unlocked c.number-cpu_number.result (Fast group) said) before mid m left
           c.in-Got.ensures.gains watched;
     }
 
@@ -39,7 +39,7 @@ returns-in_default-clause-answer g c path is =
     let l = c.args.locked.now in
     let tried = c.alloc_in_order in
     let served = c.serve_frame_under_lock in
-    lock_served (terms g.N.BootName.frames c.args.is_explained) (Alloc path 0) l served.new.locked c.args.cpu.now served.new.cpu
+    lock_served (terms g.N.BootName.table c.args.is_explained) (Alloc path 0) l served.new.locked c.args.cpu.now served.new.cpu
     (locked_state tried.new.locked tried.new.cpu) (answer_of served.new.locked.machine.ledger served.result) (record {
       group = c.args.group;
       found = is;

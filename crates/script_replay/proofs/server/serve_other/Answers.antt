@@ -1,6 +1,6 @@
 use Rattle.std.proofs.Common.{[], rules}
 use Rattle.mem_system.specs.Visits.{locked_state}
-use Rattle.script_replay.specs.{AnswersAlone, Gains, NeedsLock, steps_alone, terms, answer_of}
+use Rattle.script_replay.specs.{AnswersUnlocked, Gains, NeedsLock, steps_unlocked, terms, answer_of}
 use Rattle.script_replay.proofs.Serving.{lock_served, only_settles, unlocked_served, untried, vain_is}
 use Rattle.script_replay.proofs.server.serve_other.Goals as goal
 
@@ -10,10 +10,10 @@ returns-in-Some-clause-answer g c =
     let said = c.in-Some.said in
     let before = c.args.cpu.now in
     let tried = c.try_in_order in
-    let alone : AnswersAlone command before tried.new.cpu said = search rules in
-    let gains : Gains (steps_alone before.part.number command said) (locked_state c.args.locked.now before) (locked_state tried.new.locked tried.new.cpu) =
+    let alone : AnswersUnlocked command before tried.new.cpu said = search rules in
+    let gains : Gains (steps_unlocked before.part.number command said) (locked_state c.args.locked.now before) (locked_state tried.new.locked tried.new.cpu) =
     search rules in
-    unlocked_served (terms g.N.BootName.frames c.args.is_explained) command c.args.locked.now c.watch_unlocked.new.locked before
+    unlocked_served (terms g.N.BootName.table c.args.is_explained) command c.args.locked.now c.watch_unlocked.new.locked before
     tried.new.cpu tried.new.locked c.number-cpu_number.result said c.number-cpu_number.ensures.number alone tried.ensures.only_saw gains c.watch_unlocked.ensures
 
 pub serve_under_lock-requires : goal.serve_under_lock-requires
@@ -31,7 +31,7 @@ returns-clause-answer g c =
     let served = c.serve_under_lock in
     let needs : NeedsLock command before tried.new.cpu = search rules in
     let gains : Gains [] (locked_state c.args.locked.now before) seen = search rules in
-    lock_served (terms g.N.BootName.frames c.args.is_explained) command c.args.locked.now served.new.locked before served.new.cpu
+    lock_served (terms g.N.BootName.table c.args.is_explained) command c.args.locked.now served.new.locked before served.new.cpu
     seen (answer_of served.new.locked.machine.ledger served.result)
     (vain_is command c.args.locked.now before tried.new.cpu c.requires.other needs) tried.ensures.only_saw gains
     (λ settles. tried.ensures.stays (untried command settles)) served.ensures.served

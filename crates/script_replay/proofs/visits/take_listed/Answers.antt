@@ -1,11 +1,11 @@
 use Rattle.std.proofs.Common.{ℕ, [], ap, refl, subst, sym}
-use Rattle.cpu_part.specs.{KnownCpu, FastAnswers}
+use Rattle.cpu_part.specs.{KnownCpuLists, FastAnswers}
 use Rattle.cpu_part.specs.declared.answers.Fast.TheVariants.{Got}
 use Rattle.reply_texts.specs.declared.steps.UnlockedAnswer.TheVariants as unlocked
 use Rattle.script_lines.specs.declared.line.Command.TheVariants.{Fast}
-use Rattle.script_replay.specs.Answers.{MakesAlone, steps_alone}
+use Rattle.script_replay.specs.Answers.{MakesUnlocked, steps_unlocked}
 use Rattle.script_replay.proofs.Gaining.{fast_made, no_fast_made}
-use Rattle.script_replay.proofs.Growing.{alone_grew, grew_both, seen_grew}
+use Rattle.script_replay.proofs.Growing.{unlocked_grew, grew_both, seen_grew}
 use Rattle.script_replay.proofs.visits.take_listed.Goals as goal
 
 pub returns-in_default : goal.returns-in_default
@@ -28,9 +28,9 @@ returns-in-Got g c =
     let cpu = c.args.cpu.now in
     let met = c.find.new.cpu in
     let left = c.alloc_fast.new.self in
-    let steps = steps_alone met.part.number (Fast c.in-Some.group) said in
-    let made : MakesAlone met.part.number steps met.past left.past =
-    subst (λ (group : ℕ). MakesAlone met.part.number (steps_alone met.part.number (Fast group) said) met.past left.past) c.number.ensures.value
+    let steps = steps_unlocked met.part.number (Fast c.in-Some.group) said in
+    let made : MakesUnlocked met.part.number steps met.past left.past =
+    subst (λ (group : ℕ). MakesUnlocked met.part.number (steps_unlocked met.part.number (Fast group) said) met.past left.past) c.number.ensures.value
     (fast_made met.part.number met.past left.past c.number.result (Got c.in-Got.frame) met.last c.in-Got.ensures.run) in record {
       answers = record {
         steps = steps;
@@ -54,7 +54,7 @@ returns-in-Got g c =
           },
         );
         grew = grew_both cpu.past [] met.past steps left.past (seen_grew cpu.past met.past found.sees)
-            (alone_grew met.part.number steps met.past left.past made);
+            (unlocked_grew met.part.number steps met.past left.past made);
       };
       needs_visit = tt;
     }
@@ -65,7 +65,7 @@ returns-in_default-alloc_fast g c =
     let cpu = c.args.cpu.now in
     let met = c.find.new.cpu in
     let seen = c.alloc_fast.new.self in
-    let alone : MakesAlone met.part.number [] met.past seen.past =
+    let alone : MakesUnlocked met.part.number [] met.past seen.past =
     no_fast_made met.part.number met.past seen.past c.number.result c.alloc_fast.result met.last c.in_default-alloc_fast.not-Got
     c.alloc_fast.ensures.run in record {
       answers = tt;
@@ -87,10 +87,10 @@ returns-in_default-alloc_fast g c =
               none = c.in_default-alloc_fast.not-Got;
             };
           };
-          alone = subst (λ (n : ℕ). MakesAlone n [] met.past seen.past) (ap (λ (p : KnownCpu). p.number) found.part) alone;
+          makes = subst (λ (n : ℕ). MakesUnlocked n [] met.past seen.past) (ap (λ (p : KnownCpuLists). p.number) found.part) alone;
         };
         grew = grew_both cpu.past [] met.past [] seen.past (seen_grew cpu.past met.past found.sees)
-            (alone_grew met.part.number [] met.past seen.past alone);
+            (unlocked_grew met.part.number [] met.past seen.past alone);
         untried = λ settles. absurd settles;
       };
     }

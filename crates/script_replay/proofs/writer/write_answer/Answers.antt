@@ -11,6 +11,6 @@ returns-in_default-clause-told g c =
     let said = answer_of machine.ledger c.args.value.now in record {
       text = reasoned_text c.args.is_explained said (borrower_of (head_named c.args.command.now) machine)
           ++ explanation_if (is_noted said && c.args.is_explained) (path_removed c.args.command.now) machine;
-      so = value_text g.N.BootName.frames c.args.is_explained c.args.command.now machine.ledger c.args.value.now left c.in_default.not-Settled;
+      so = value_text g.N.BootName.table c.args.is_explained c.args.command.now machine.ledger c.args.value.now left c.in_default.not-Settled;
       added = c.write_value.ensures;
     }

@@ -13,10 +13,10 @@ returns-in_err-is_there g c =
     let seen = c.write_units_at in
     let l = c.args.locked.now in
     let group = number_at l.machine.ledger.groups c.args.path.now in record {
-      told = units_failed g.N.BootName.frames (reasoned_text c.args.is_explained (answer.Unlocked (unlocked.Refused NoGroup)) None) c.args.text.now seen.new.text
+      told = units_failed g.N.BootName.table (reasoned_text c.args.is_explained (answer.Unlocked (unlocked.Refused NoGroup)) None) c.args.text.now seen.new.text
           seen.new.text l.machine seen.new.locked.machine c.from_residual.result group seen.result seen.ensures.units c.in_err-is_there.field-0.0
           c.in_err-is_there.was (λ text. search rules);
-      stays = locked_stays g.N.BootName.frames group _ _ l seen.new.locked seen.ensures.units seen.ensures.sizes;
+      stays = locked_stays g.N.BootName.table group _ _ l seen.new.locked seen.ensures.units seen.ensures.sizes;
     }
 
 pub returns-then-is_there : goal.returns-then-is_there
@@ -24,9 +24,9 @@ returns-then-is_there g c =
     let seen = c.write_units_at in
     let l = c.args.locked.now in
     let group = number_at l.machine.ledger.groups c.args.path.now in record {
-      told = units_there g.N.BootName.frames (reasoned_text c.args.is_explained (answer.Unlocked (unlocked.Refused NoGroup)) None) c.args.text.now seen.new.text
+      told = units_there g.N.BootName.table (reasoned_text c.args.is_explained (answer.Unlocked (unlocked.Refused NoGroup)) None) c.args.text.now seen.new.text
           seen.new.text l.machine seen.new.locked.machine (Ok tt) group seen.result seen.ensures.units (c.in_ok-is_there.was ∙ ap Ok c.if-is_there.true);
-      stays = locked_stays g.N.BootName.frames group _ _ l seen.new.locked seen.ensures.units seen.ensures.sizes;
+      stays = locked_stays g.N.BootName.table group _ _ l seen.new.locked seen.ensures.units seen.ensures.sizes;
     }
 
 pub returns : goal.returns
@@ -34,8 +34,8 @@ returns g c =
     let seen = c.write_units_at in
     let l = c.args.locked.now in
     let group = number_at l.machine.ledger.groups c.args.path.now in record {
-      told = units_none g.N.BootName.frames (reasoned_text c.args.is_explained (answer.Unlocked (unlocked.Refused NoGroup)) None) c.args.text.now seen.new.text
+      told = units_none g.N.BootName.table (reasoned_text c.args.is_explained (answer.Unlocked (unlocked.Refused NoGroup)) None) c.args.text.now seen.new.text
           c.write_value.new.text l.machine seen.new.locked.machine c.write_value.result group seen.result seen.ensures.units
           (c.in_ok-is_there.was ∙ ap Ok c.if-is_there.false) (not_noted c.write_value.result _ _ _ c.write_value.ensures);
-      stays = locked_stays g.N.BootName.frames group _ _ l seen.new.locked seen.ensures.units seen.ensures.sizes;
+      stays = locked_stays g.N.BootName.table group _ _ l seen.new.locked seen.ensures.units seen.ensures.sizes;
     }

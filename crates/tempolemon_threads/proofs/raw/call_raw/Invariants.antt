@@ -1,4 +1,4 @@
 use Rattle.tempolemon_threads.proofs.raw.call_raw.Given as goal
 
-abbrev pub ghosts-serve_call : goal.ghosts-serve_call
-ghosts-serve_call a = record { frames = a.pointer.frames }
+abbrev pub ghosts-call_pointer : goal.ghosts-call_pointer
+ghosts-call_pointer a = record { table = a.pointer.frames }

@@ -5,12 +5,12 @@ use Rattle.thread_runs.proofs.systems.live_by_threads.Goals as goal
 
 pub run_and_replay-told-requires-clause-lines : goal.run_and_replay-told-requires-clause-lines
 run_and_replay-told-requires-clause-lines g c κs within =
-    lines_there c.args.boot.sizes _ g.N.BootName.frames _ c.args.lines.now c.requires.sized c.requires.names
+    lines_there c.args.boot.sizes _ g.N.BootName.table _ c.args.lines.now c.requires.sized c.requires.names
     (ap length c.deref_mut.ensures.value ∙ c.in_ok-system.ensures.count) c.requires.lines
 
 pub run_and_replay-told-requires-clause-last : goal.run_and_replay-told-requires-clause-last
 run_and_replay-told-requires-clause-last g c κs within =
-    lines_there c.args.boot.sizes _ g.N.BootName.frames _ c.args.last.now c.requires.sized c.requires.names
+    lines_there c.args.boot.sizes _ g.N.BootName.table _ c.args.last.now c.requires.sized c.requires.names
     (ap length c.deref_mut.ensures.value ∙ c.in_ok-system.ensures.count) c.requires.last
 
 pub end_boot-ended-requires : goal.end_boot-ended-requires

@@ -1,4 +1,4 @@
-use Rattle.stock_word.specs.declared.view.Stock.TheVariants.{DrainedOf, HeldBy}
+use Rattle.stock_word.specs.declared.stock.Stock.TheVariants.{DrainedOf, HeldBy}
 use Rattle.step_rules.specs.declared.step.Action.TheVariants.{Consume}
 use Rattle.step_rules.specs.declared.step.Answer.TheVariants.{Took}
 use Rattle.boot_words.specs.{zone_of_boot, own_past}

@@ -1,8 +1,7 @@
 use Rattle.std.proofs.Common.{◌+◌, rules, ap, ◌∙◌, arith}
-use Rattle.stock_word.specs.declared.view.Stock.TheVariants.{NoGroup}
-use Rattle.stock_word.proofs.Deals.{all_left, none_more, one_more}
+use Rattle.stock_word.specs.declared.stock.Stock.TheVariants.{NoGroup}
 use Rattle.boot_words.specs.Seats.{cpus_pasts, first_alone, rest_of}
-use Rattle.boot_words.proofs.Dealing.{last_seats, next_past, next_seats, no_seats}
+use Rattle.boot_words.proofs.Dealing.{all_left, last_seats, next_past, next_seats, no_seats, none_more, one_more}
 use Rattle.boot_words.proofs.raw.BootWords.deal.Goals as goal
 
 pub loop-cpu-init : goal.loop-cpu-init
@@ -35,7 +34,7 @@ loop-cpu-preserved c =
       number = let longer = c.push_reserved.ensures.len in let n = c.loop-cpu.invariant.number in omega arith;
       pasts = ap (λ s. s.pasts) c.seated.ensures.rest ∙ ap rest_of next;
       seats = next_seats _ _ _ _ _ _ _ _ c.loop-cpu.invariant.seats more
-          (c.seated.ensures.seat ∙ ap (λ l. record { seat = record { table = c.args.self.now.table; pasts = first_alone l }; number = c.loop-cpu.cpu; last = NoGroup }) next)
+          (c.seated.ensures.seat ∙ ap (λ l. record { past = record { table = c.args.self.now.table; pasts = first_alone l }; number = c.loop-cpu.cpu; last = NoGroup }) next)
           c.push_reserved.ensures.items;
     }
 

@@ -1,5 +1,5 @@
 use Rattle.std.proofs.Common.{sym, ◌∙◌, subst}
-use Rattle.stock_word.specs.declared.view.Stock.TheVariants.{DrainedOf}
+use Rattle.stock_word.specs.declared.stock.Stock.TheVariants.{DrainedOf}
 use Rattle.stock_word.specs.Stock.{word_of}
 use Rattle.boot_words.specs.{KnownPasts, cpu_past, own_past, zone_of_boot, MayChange}
 use Rattle.boot_words.specs.declared.word.Word.TheVariants.{StockOf}

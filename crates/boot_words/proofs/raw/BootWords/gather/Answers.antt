@@ -7,7 +7,7 @@ pub join-requires : goal.join-requires
 join-requires c =
     let at = c.loop-cpu in
     let steps : into_iter_items at.cpu-iterator ≡ c.in-Some.cpu ∷ into_iter_items c.next.new.self = c.in-Some.ensures.steps.0 in
-    record { tables = (at.invariant.table, ap (λ k. k.seat.table) c.cpu.view_is ∙ (subst (AllOf (HasCpuPast c.args.self.now)) steps at.invariant.left).0.table_is) }
+    record { tables = (at.invariant.table, ap (λ k. k.past.table) c.cpu.view_is ∙ (subst (AllOf (HasCpuPast c.args.self.now)) steps at.invariant.left).0.table_is) }
 
 pub loop-cpu-preserved : goal.loop-cpu-preserved
 loop-cpu-preserved c =
@@ -17,8 +17,8 @@ loop-cpu-preserved c =
       table = ap (λ s. s.table) c.join.ensures.seat;
       left = (subst (AllOf (HasCpuPast c.args.self.now)) steps at.invariant.left).1;
       counted = (let was = at.invariant.counted in let gone = c.in-Some.ensures.steps.1 in let short = ap length steps in omega arith);
-      pasts = ap (λ s. s.pasts ++ more) c.join.ensures.seat ∙ ap (λ k. (at.zone.pasts ++ k.seat.pasts) ++ more) c.cpu.view_is
-          ∙ append_assoc at.zone.pasts c.in-Some.cpu.seat.pasts more ∙ ap (λ l. at.zone.pasts ++ pasts_of_cpus l) (sym steps) ∙ at.invariant.pasts;
+      pasts = ap (λ s. s.pasts ++ more) c.join.ensures.seat ∙ ap (λ k. (at.zone.pasts ++ k.past.pasts) ++ more) c.cpu.view_is
+          ∙ append_assoc at.zone.pasts c.in-Some.cpu.past.pasts more ∙ ap (λ l. at.zone.pasts ++ pasts_of_cpus l) (sym steps) ∙ at.invariant.pasts;
     }
 
 nothing_left : {X : Type 0} (l : List X) → length l ≡ 0 → l ≡ []

@@ -1,5 +1,5 @@
 use Rattle.std.proofs.Common.{◌<◌, sym, subst}
-use Rattle.stock_word.specs.Stock.{HasWord}
+use Rattle.stock_word.specs.Stock.{HasWord, group_base}
 use Rattle.boot_words.specs.Pasts.{local_by_pasts}
 use Rattle.boot_words.proofs.Visiting.{holder_of_held}
 use Rattle.boot_words.proofs.Looking.{same_seat, sees_stock, stock_is}
@@ -18,7 +18,7 @@ pub returns-clause-has_word : goal.returns-clause-has_word
 returns-clause-has_word c = subst HasWord (sym (c.of_word.ensures _ c.load-found.ensures.told.fits c.load-found.ensures.told.word)) c.load-found.ensures.told.fits
 
 pub returns-clause-bounded : goal.returns-clause-bounded
-returns-clause-bounded c = subst (λ q. ((local_by_pasts c.args.self.now c.args.held.now).parts q).book < 65536) (sym c.requires.holder) c.load-found.ensures.told.few
+returns-clause-bounded c = subst (λ q. ((local_by_pasts c.args.self.now c.args.held.now).parts q).book < group_base) (sym c.requires.holder) c.load-found.ensures.told.few
 
 pub returns-clause-same : goal.returns-clause-same
 returns-clause-same c = same_seat c.args.self.now c.args.held.now c.load-found.new.seat c.requires.held c.load-found.ensures.table c.load-found.ensures.told.later_is

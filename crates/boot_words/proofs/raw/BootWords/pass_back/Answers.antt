@@ -1,5 +1,5 @@
 use Rattle.std.proofs.Common.{sym, subst}
-use Rattle.frame_word.specs.ReferenceRule.{mark}
+use Rattle.frame_word.specs.Word.{mark}
 use Rattle.boot_words.specs.{cpu_past, own_past, zone_of_boot, MayChange}
 use Rattle.boot_words.specs.declared.word.Word.TheVariants.{OfFrame}
 use Rattle.boot_words.proofs.Visiting.{frame_of_pass_back, passed_back_made, passes_back_held, passes_told}

@@ -3,11 +3,11 @@ use Rattle.std.proofs.lemmas.Iterator.{YieldsList-from_slice}
 use Rattle.std.proofs.lemmas.Iterator.Search.{any_from_yields_List}
 use Rattle.std.proofs.lemmas.Bool.{true≢false}
 use Rattle.std.proofs.lemmas.List.{length-set}
-use Rattle.group_charge.specs.Charges.{Settings, are_protecting, is_protecting}
+use Rattle.group_charge.specs.Charges.{ReclaimSettings, are_protecting, is_protecting}
 use Rattle.group_charge.proofs.settings.SettingsTable.set.Goals as goal
 
 -- a write of what doesn't pass, over what didn't
-set_none : (settings : List Settings) (at : ℕ) (one : Settings) → are_protecting settings ≡ false → is_protecting one ≡ false
+set_none : (settings : List ReclaimSettings) (at : ℕ) (one : ReclaimSettings) → are_protecting settings ≡ false → is_protecting one ≡ false
     → are_protecting (set settings at one) ≡ false
 set_none [] at one none off = refl
 set_none (s ∷ settings) zero one none off = by_case (is_protecting s) none

@@ -7,7 +7,7 @@ use Rattle.line_server.proofs.server.Server.answer_plainly.Goals as goal
 
 pub returns-in-TooLong-clause-answered : goal.returns-in-TooLong-clause-answered
 returns-in-TooLong-clause-answered g c =
-    let frames = g.N.BootName.frames in
+    let frames = g.N.BootName.table in
     let inside = c.self.inside in
     let here : KnownServer = record { sizes = inside.sizes; form = inside.form; state = system_state inside.locked inside.cpus.items } in
     subst (λ (text : Option (List ℕ)). IfOk c.bad_line.result (λ answer. HasAnswer (terms_of frames c.args.self.now) c.args.self.now.sizes c.args.number text

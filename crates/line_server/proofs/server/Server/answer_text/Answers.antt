@@ -9,7 +9,7 @@ use Rattle.line_server.proofs.server.Server.answer_text.Goals as goal
 
 pub returns-then-is_skipped-clause-answered : goal.returns-then-is_skipped-clause-answered
 returns-then-is_skipped-clause-answered g c =
-    skipped (terms_of g.N.BootName.frames c.args.self.now) c.args.self.now.sizes c.args.number c.args.text.now c.args.self.now.state
+    skipped (terms_of g.N.BootName.table c.args.self.now) c.args.self.now.sizes c.args.number c.args.text.now c.args.self.now.state
     _ (sym c.is_skipped.ensures ∙ c.if-is_skipped.true) c.new.ensures.items
 
 pub refuse_text-requires-clause-bad : goal.refuse_text-requires-clause-bad
@@ -17,7 +17,7 @@ refuse_text-requires-clause-bad g c = (c.args.number, c.in-None.ensures)
 
 pub returns-in-None-clause-answered : goal.returns-in-None-clause-answered
 returns-in-None-clause-answered g c =
-    let frames = g.N.BootName.frames in
+    let frames = g.N.BootName.table in
     let inside = c.self.inside in
     let here : KnownServer = record { sizes = inside.sizes; form = inside.form; state = system_state inside.locked inside.cpus.items } in
     subst (λ (s : KnownServer). IfOk c.refuse_text.result (λ answer. HasAnswer (terms_of frames s) s.sizes c.args.number (Some c.args.text.now) s.state s.state answer.items))
@@ -27,7 +27,7 @@ returns-in-None-clause-answered g c =
 
 pub returns-in-Some-clause-answered : goal.returns-in-Some-clause-answered
 returns-in-Some-clause-answered g c =
-    let frames = g.N.BootName.frames in
+    let frames = g.N.BootName.table in
     let inside = c.self.inside in
     let here : KnownServer = record { sizes = inside.sizes; form = inside.form; state = system_state inside.locked inside.cpus.items } in
     let cpus = c.answer_line.new.cpus in

@@ -7,7 +7,7 @@ use Rattle.line_server.proofs.server.Server.serve.Goals as goal
 
 pub returns-then-not-goes_on-clause-served : goal.returns-then-not-goes_on-clause-served
 returns-then-not-goes_on-clause-served g c =
-    let frames = g.N.BootName.frames in
+    let frames = g.N.BootName.table in
     let first = c.args.self.now in
     let left = g.I.Read.remaining c.loop-before.input in
     let after = g.I.Read.remaining c.serve_line.new.input in
@@ -22,7 +22,7 @@ returns-then-not-goes_on-clause-served g c =
 
 pub returns-in-Err-clause-failed : goal.returns-in-Err-clause-failed
 returns-in-Err-clause-failed g c =
-    let frames = g.N.BootName.frames in
+    let frames = g.N.BootName.table in
     let first = c.args.self.now in
     let middle = g.O.Write.contents c.loop-before.output in
     let now = g.O.Write.contents c.serve_line.new.output in
@@ -34,7 +34,7 @@ returns-in-Err-clause-failed g c =
 
 pub loop-before-preserved : goal.loop-before-preserved
 loop-before-preserved g c =
-    let frames = g.N.BootName.frames in
+    let frames = g.N.BootName.table in
     let first = c.args.self.now in
     let left = g.I.Read.remaining c.loop-before.input in
     let after = g.I.Read.remaining c.serve_line.new.input in
@@ -56,5 +56,5 @@ loop-before-preserved g c =
 pub returns-clause-failed : goal.returns-clause-failed
 returns-clause-failed g c =
     let first = c.args.self.now in
-    session_failed (terms_of g.N.BootName.frames first) first.sizes c.loop-before.before _ (g.I.Read.remaining c.loop-before.input) _ c.loop-before.self.state _
+    session_failed (terms_of g.N.BootName.table first) first.sizes c.loop-before.before _ (g.I.Read.remaining c.loop-before.input) _ c.loop-before.self.state _
     (g.O.Write.contents c.loop-before.output) c.loop-before.self.state (g.O.Write.contents c.loop-before.output) Input c.loop-before.invariant.0 (refl, refl)

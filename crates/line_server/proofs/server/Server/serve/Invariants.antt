@@ -5,6 +5,6 @@ use Rattle.line_server.proofs.server.Server.serve.Given as goal
 
 abbrev pub invariant-loop-before : goal.invariant-loop-before
 invariant-loop-before g l =
-    SoFar (terms_of g.N.BootName.frames l.initial.self) l.initial.self.sizes l.before (g.I.Read.remaining l.initial.input)
+    SoFar (terms_of g.N.BootName.table l.initial.self) l.initial.self.sizes l.before (g.I.Read.remaining l.initial.input)
     (g.I.Read.remaining l.input) l.initial.self.state l.self.state (g.O.Write.contents l.initial.output) (g.O.Write.contents l.output)
     × KeepsTerms l.initial.self l.self

@@ -11,7 +11,7 @@ loop-number-init g c = refl
 pub overflow_add-charged : goal.overflow_add-charged
 overflow_add-charged g c =
     let few = c.prove_sizes.ensures.frames in
-    let counted = are_counted g.N.BootName.frames _ _ c.self.view_is c.self.invariant.consistent c.prove_charges.ensures.legal in
+    let counted = are_counted g.N.BootName.table _ _ c.self.view_is c.self.invariant.consistent c.prove_charges.ensures.legal in
     let number : c.unwrap.result ≡ c.loop-number.number = search rules in
     let next = counted.next c.loop-number.number in
     let same = c.frames_of-charged.ensures ∙ ap (frames_charged c.args.self.now.frame_states) number in
@@ -22,7 +22,7 @@ overflow_add-charged g c =
 
 pub loop-number-preserved : goal.loop-number-preserved
 loop-number-preserved g c =
-    let counted = are_counted g.N.BootName.frames _ _ c.self.view_is c.self.invariant.consistent c.prove_charges.ensures.legal in
+    let counted = are_counted g.N.BootName.table _ _ c.self.view_is c.self.invariant.consistent c.prove_charges.ensures.legal in
     let number : c.unwrap.result ≡ c.loop-number.number = search rules in
     let next = counted.next c.loop-number.number in
     let same = c.frames_of-charged.ensures ∙ ap (frames_charged c.args.self.now.frame_states) number in
@@ -32,7 +32,7 @@ loop-number-preserved g c =
 pub overflow_cast-result : goal.overflow_cast-result
 overflow_cast-result g c =
     let few = c.prove_sizes.ensures.frames in
-    let counted = are_counted g.N.BootName.frames _ _ c.self.view_is c.self.invariant.consistent c.prove_charges.ensures.legal in
+    let counted = are_counted g.N.BootName.table _ _ c.self.view_is c.self.invariant.consistent c.prove_charges.ensures.legal in
     let end : c.loop-number.number ≡ 64 = omega (arith, c.loop-number.auto.number-end) in
     let within = counted.within c.loop-number.number (omega arith) in
     let so_far = c.loop-number.invariant in
@@ -40,13 +40,13 @@ overflow_cast-result g c =
 
 pub returns-clause-charged : goal.returns-clause-charged
 returns-clause-charged g c =
-    let counted = are_counted g.N.BootName.frames _ _ c.self.view_is c.self.invariant.consistent c.prove_charges.ensures.legal in
+    let counted = are_counted g.N.BootName.table _ _ c.self.view_is c.self.invariant.consistent c.prove_charges.ensures.legal in
     let end : c.loop-number.number ≡ 64 = omega (arith, c.loop-number.auto.number-end) in
     c.loop-number.invariant ∙ ap (λ (k : ℕ). sum_to k (frames_charged c.args.self.now.frame_states)) end ∙ counted.all
 
 pub returns-clause-at_most : goal.returns-clause-at_most
 returns-clause-at_most g c =
-    let counted = are_counted g.N.BootName.frames _ _ c.self.view_is c.self.invariant.consistent c.prove_charges.ensures.legal in
+    let counted = are_counted g.N.BootName.table _ _ c.self.view_is c.self.invariant.consistent c.prove_charges.ensures.legal in
     let end : c.loop-number.number ≡ 64 = omega (arith, c.loop-number.auto.number-end) in
     let within = counted.within c.loop-number.number (omega arith) in
     let so_far = c.loop-number.invariant in

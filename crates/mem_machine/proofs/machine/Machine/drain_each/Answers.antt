@@ -21,14 +21,14 @@ pub loop-place-preserved : goal.loop-place-preserved
 loop-place-preserved g c =
     let found = c.in-Some.ensures.first in
     let bound = c.drain_noted.type_inv in
-    subst (λ (n : ℕ). DrainedOfChosen g.N.BootName.frames c.args.self.now c.drain_noted.new.self c.args.stocks c.take_first.new.word (c.loop-place.pages + n))
+    subst (λ (n : ℕ). DrainedOfChosen g.N.BootName.table c.args.self.now c.drain_noted.new.self c.args.stocks c.take_first.new.word (c.loop-place.pages + n))
     (sym c.from-pages.ensures)
     (one_drained _ _ _ _ _ _ c.loop-place.invariant c.prove_sizes.ensures.few c.in-Some.place found.0 found.1 found.2 c.requires.chosen _ _ _
     c.in-Some.ensures.taken c.drain_noted.ensures.drains c.drain_noted.ensures.steps c.drain_noted.ensures.visit (omega (arith, bound)))
 
 pub returns-clause-drains : goal.returns-clause-drains
 returns-clause-drains g c =
-    λ test chosen. drained_end g.N.BootName.frames test _ _ _ _ (all_drained _ _ _ _ _ _ c.loop-place.invariant c.prove_sizes.ensures.few c.in_default.ensures.first test chosen) refl
+    λ test chosen. drained_end g.N.BootName.table test _ _ _ _ (all_drained _ _ _ _ _ _ c.loop-place.invariant c.prove_sizes.ensures.few c.in_default.ensures.first test chosen) refl
 
 pub returns-clause-drained : goal.returns-clause-drained
 returns-clause-drained g c =

@@ -11,17 +11,17 @@ use Rattle.mem_machine.proofs.machine.Machine.drain_stock.Goals as goal
 
 pub drain-pages-requires-clause-legal : goal.drain-pages-requires-clause-legal
 drain-pages-requires-clause-legal g c =
-    may_at _ _ c.args.tables.now.frames_are 0 refl c.self.inside.past (DrainStock c.args.cpu)
-    (drain_may g.N.BootName.frames c.self.inside.past (held_here g.N.BootName.frames (machine_of c.self.inside) _ c.self.view_is c.requires.held) c.args.cpu c.requires.cpu)
+    may_at _ _ c.args.tables.now.words_are 0 refl c.self.inside.past (DrainStock c.args.cpu)
+    (drain_may g.N.BootName.table c.self.inside.past (held_here g.N.BootName.table (machine_of c.self.inside) _ c.self.view_is c.requires.held) c.args.cpu c.requires.cpu)
 
 pub group-requires : goal.group-requires
 group-requires g c = let few = c.self.invariant.owners.few in omega (arith, few, c.requires.cpu.0, c.requires.cpu.1)
 
 pub unreachable-requires : goal.unreachable-requires
 unreachable-requires g c =
-    let t = g.N.BootName.frames in
+    let t = g.N.BootName.table in
     let m = machine_of c.self.inside in
-    let knows = knows_drain t _ c.args.tables.now.frames_are m _ c.self.view_is c.requires.held c.args.cpu _ c.requires.cpu _ c.drain-pages.ensures in
+    let knows = knows_drain t _ c.args.tables.now.words_are m _ c.self.view_is c.requires.held c.args.cpu _ c.requires.cpu _ c.drain-pages.ensures in
     let none : stock_group t m c.args.cpu ≡ None = owner_at t.cpus _ _ c.self.invariant.owners c.args.cpu c.requires.cpu.0 c.requires.cpu.1 ∙ sym c.group.ensures ∙ c.in_default.is in
     let no_page = no_group_none t m c.self.invariant.consistent c.args.cpu _ knows none in
     let some = c.if-pages-gt0.true in
@@ -29,65 +29,65 @@ unreachable-requires g c =
 
 pub overflow_sub-self : goal.overflow_sub-self
 overflow_sub-self g c =
-    let t = g.N.BootName.frames in
+    let t = g.N.BootName.table in
     let m = machine_of c.self.inside in
-    let knows = knows_drain t _ c.args.tables.now.frames_are m _ c.self.view_is c.requires.held c.args.cpu _ c.requires.cpu _ c.drain-pages.ensures in
+    let knows = knows_drain t _ c.args.tables.now.words_are m _ c.self.view_is c.requires.held c.args.cpu _ c.requires.cpu _ c.drain-pages.ensures in
     let owner : stock_group t m c.args.cpu ≡ Some c.in-Some.group = owner_at t.cpus _ _ c.self.invariant.owners c.args.cpu c.requires.cpu.0 c.requires.cpu.1 ∙ sym c.group.ensures ∙ c.in-Some.is in
     sum_within t m c.self.invariant.consistent c.args.cpu _ knows _ c.self.invariant.sums c.number.result (owner ∙ ap Some (sym c.number.ensures.value)) c.number.ensures.below
 
 pub uncharge-requires : goal.uncharge-requires
 uncharge-requires g c =
-    let t = g.N.BootName.frames in
+    let t = g.N.BootName.table in
     let m = machine_of c.self.inside in
-    let knows = knows_drain t _ c.args.tables.now.frames_are m _ c.self.view_is c.requires.held c.args.cpu _ c.requires.cpu _ c.drain-pages.ensures in
+    let knows = knows_drain t _ c.args.tables.now.words_are m _ c.self.view_is c.requires.held c.args.cpu _ c.requires.cpu _ c.drain-pages.ensures in
     let owner : stock_group t m c.args.cpu ≡ Some c.in-Some.group = owner_at t.cpus _ _ c.self.invariant.owners c.args.cpu c.requires.cpu.0 c.requires.cpu.1 ∙ sym c.group.ensures ∙ c.in-Some.is in
     let both = there_now t m c.self.invariant.consistent c.args.cpu _ knows c.in-Some.group owner c.if-pages-gt0.true in
     record { there = both.0; charged = both.1 }
 
 pub make_step-requires-clause-legal : goal.make_step-requires-clause-legal
 make_step-requires-clause-legal g c =
-    let t = g.N.BootName.frames in
+    let t = g.N.BootName.table in
     let m = machine_of c.self.inside in
-    let knows = knows_drain t _ c.args.tables.now.frames_are m _ c.self.view_is c.requires.held c.args.cpu _ c.requires.cpu _ c.drain-pages.ensures in
+    let knows = knows_drain t _ c.args.tables.now.words_are m _ c.self.view_is c.requires.held c.args.cpu _ c.requires.cpu _ c.drain-pages.ensures in
     let owner : stock_group t m c.args.cpu ≡ Some c.in-Some.group = owner_at t.cpus _ _ c.self.invariant.owners c.args.cpu c.requires.cpu.0 c.requires.cpu.1 ∙ sym c.group.ensures ∙ c.in-Some.is in
     legal_step _ _ _ _ (ungrant_may t m c.self.invariant.consistent c.args.cpu _ knows c.in-Some.group owner c.if-pages-gt0.true _
-    (made_at _ _ c.args.tables.now.frames_are 0 refl _ _ _ _ c.drain-pages.ensures)) tt (search rules)
+    (made_at _ _ c.args.tables.now.words_are 0 refl _ _ _ _ c.drain-pages.ensures)) tt (search rules)
 
 pub invariant_of-self : goal.invariant_of-self
 invariant_of-self g c =
-    let t = g.N.BootName.frames in
+    let t = g.N.BootName.table in
     let m = machine_of c.self.inside in
-    let knows = knows_drain t _ c.args.tables.now.frames_are m _ c.self.view_is c.requires.held c.args.cpu _ c.requires.cpu _ c.drain-pages.ensures in
+    let knows = knows_drain t _ c.args.tables.now.words_are m _ c.self.view_is c.requires.held c.args.cpu _ c.requires.cpu _ c.drain-pages.ensures in
     let owner : stock_group t m c.args.cpu ≡ Some c.in-Some.group = owner_at t.cpus _ _ c.self.invariant.owners c.args.cpu c.requires.cpu.0 c.requires.cpu.1 ∙ sym c.group.ensures ∙ c.in-Some.is in
-    let noted = noted_some t _ c.args.tables.now.frames_are m.run c.args.cpu _ c.in-Some.group c.if-pages-gt0.true _ _ c.drain-pages.ensures (c.take.ensures _ _ (search rules)) _ (c.make_step.ensures.notes _ _ (search rules)) in
+    let noted = noted_some t _ c.args.tables.now.words_are m.run c.args.cpu _ c.in-Some.group c.if-pages-gt0.true _ _ c.drain-pages.ensures (c.take.ensures _ _ (search rules)) _ (c.make_step.ensures.notes _ _ (search rules)) in
     drained_sound t c.self.inside c.self.invariant c.args.cpu _ knows c.in-Some.group owner c.number.result c.number.ensures.value c.number.ensures.below _ noted _ c.uncharge.ensures.uncharged
 
 pub invariant_of-self-else-pages-gt0 : goal.invariant_of-self-else-pages-gt0
 invariant_of-self-else-pages-gt0 g c =
-    let t = g.N.BootName.frames in
+    let t = g.N.BootName.table in
     let m = machine_of c.self.inside in
-    let knows = knows_drain t _ c.args.tables.now.frames_are m _ c.self.view_is c.requires.held c.args.cpu _ c.requires.cpu _ c.drain-pages.ensures in
+    let knows = knows_drain t _ c.args.tables.now.words_are m _ c.self.view_is c.requires.held c.args.cpu _ c.requires.cpu _ c.drain-pages.ensures in
     let none : c.drain-pages.result ≡ 0 = search rules in
     emptied_sound t c.self.inside c.self.invariant c.args.cpu _ knows none _
-    (noted_none t _ c.args.tables.now.frames_are m.run c.args.cpu _ (stock_group t m c.args.cpu) none _ _ c.drain-pages.ensures (c.take.ensures _ _ (search rules)))
+    (noted_none t _ c.args.tables.now.words_are m.run c.args.cpu _ (stock_group t m c.args.cpu) none _ _ c.drain-pages.ensures (c.take.ensures _ _ (search rules)))
 
 pub returns-in-Some : goal.returns-in-Some
 returns-in-Some g c =
-    let t = g.N.BootName.frames in
+    let t = g.N.BootName.table in
     let m = machine_of c.self.inside in
-    let knows = knows_drain t _ c.args.tables.now.frames_are m _ c.self.view_is c.requires.held c.args.cpu _ c.requires.cpu _ c.drain-pages.ensures in
+    let knows = knows_drain t _ c.args.tables.now.words_are m _ c.self.view_is c.requires.held c.args.cpu _ c.requires.cpu _ c.drain-pages.ensures in
     let owner : stock_group t m c.args.cpu ≡ Some c.in-Some.group = owner_at t.cpus _ _ c.self.invariant.owners c.args.cpu c.requires.cpu.0 c.requires.cpu.1 ∙ sym c.group.ensures ∙ c.in-Some.is in
-    let noted = noted_some t _ c.args.tables.now.frames_are m.run c.args.cpu _ c.in-Some.group c.if-pages-gt0.true _ _ c.drain-pages.ensures (c.take.ensures _ _ (search rules)) _ (c.make_step.ensures.notes _ _ (search rules)) in
+    let noted = noted_some t _ c.args.tables.now.words_are m.run c.args.cpu _ c.in-Some.group c.if-pages-gt0.true _ _ c.drain-pages.ensures (c.take.ensures _ _ (search rules)) _ (c.make_step.ensures.notes _ _ (search rules)) in
     let all = drained_now t m c.self.invariant.consistent c.args.cpu _ knows (Some c.in-Some.group) owner _ noted _ c.self.view_is _ c.uncharge.ensures.uncharged in
     record { drains = all.drains; steps = all.steps; visit = all.visit }
 
 pub returns-else-pages-gt0 : goal.returns-else-pages-gt0
 returns-else-pages-gt0 g c =
-    let t = g.N.BootName.frames in
+    let t = g.N.BootName.table in
     let m = machine_of c.self.inside in
-    let knows = knows_drain t _ c.args.tables.now.frames_are m _ c.self.view_is c.requires.held c.args.cpu _ c.requires.cpu _ c.drain-pages.ensures in
+    let knows = knows_drain t _ c.args.tables.now.words_are m _ c.self.view_is c.requires.held c.args.cpu _ c.requires.cpu _ c.drain-pages.ensures in
     let none : c.drain-pages.result ≡ 0 = search rules in
     let o = stock_group t m c.args.cpu in
-    let noted = noted_none t _ c.args.tables.now.frames_are m.run c.args.cpu _ o none _ _ c.drain-pages.ensures (c.take.ensures _ _ (search rules)) in
+    let noted = noted_none t _ c.args.tables.now.words_are m.run c.args.cpu _ o none _ _ c.drain-pages.ensures (c.take.ensures _ _ (search rules)) in
     let all = drained_now t m c.self.invariant.consistent c.args.cpu _ knows o refl _ noted _ c.self.view_is _ (drained_none c.self.inside.charges o _ none) in
     record { drains = all.drains; steps = all.steps; visit = all.visit }

@@ -7,7 +7,7 @@ use Rattle.mem_machine.proofs.machine.Machine.drop_one.Goals as goal
 
 pub collect_fresh-frame-requires : goal.collect_fresh-frame-requires
 collect_fresh-frame-requires g c =
-    let t = g.N.BootName.frames in
+    let t = g.N.BootName.table in
     let m = machine_of c.self.inside in
     let fits : c.args.group < 64 = search rules in
     let visit = visits_here t m _ c.self.view_is c.args.cpu.now c.requires.visit in
@@ -23,7 +23,7 @@ collect_fresh-frame-requires g c =
 
 pub free_unit-requires : goal.free_unit-requires
 free_unit-requires g c =
-    let t = g.N.BootName.frames in
+    let t = g.N.BootName.table in
     let m = machine_of c.self.inside in
     let front = c.collect_fresh-frame.ensures.cpu.front in
     let one = c.single_order-order.ensures in
@@ -39,12 +39,12 @@ free_unit-requires g c =
 pub make_step-requires-clause-legal : goal.make_step-requires-clause-legal
 make_step-requires-clause-legal g c =
     let e = c.collect_fresh-frame.ensures in
-    legal_step _ _ _ _ (may_return g.N.BootName.frames (machine_of c.self.inside) _ c.self.view_is c.args.cpu.now c.requires.visit c.self.invariant.consistent c.args.group c.requires.group
+    legal_step _ _ _ _ (may_return g.N.BootName.table (machine_of c.self.inside) _ c.self.view_is c.args.cpu.now c.requires.visit c.self.invariant.consistent c.args.group c.requires.group
     c.collect_fresh-frame.result _ e.cpu.front _ e.notes c.requires.killed _ c.number-at.ensures) tt (search rules)
 
 pub invariant_of-self : goal.invariant_of-self
 invariant_of-self g c =
-    let t = g.N.BootName.frames in
+    let t = g.N.BootName.table in
     let fits : c.args.group < 64 = search rules in
     let e = c.collect_fresh-frame.ensures in
     let u = c.free_unit.ensures in
@@ -57,7 +57,7 @@ invariant_of-self g c =
 
 pub returns : goal.returns
 returns g c =
-    let t = g.N.BootName.frames in
+    let t = g.N.BootName.table in
     let fits : c.args.group < 64 = search rules in
     let e = c.collect_fresh-frame.ensures in
     let u = c.free_unit.ensures in

@@ -13,15 +13,15 @@ use Rattle.mem_machine.proofs.ZoneSteps.{same_books}
 use Rattle.mem_machine.proofs.machine.Machine.evict.Goals as goal
 
 pub freeze-requires-clause-legal : goal.freeze-requires-clause-legal
-freeze-requires-clause-legal g c = may_at _ _ c.args.tables.now.frames_are 0 refl c.self.inside.past (Freeze c.args.head 1)
-    (freeze_may g.N.BootName.frames (machine_of c.self.inside) _ c.self.view_is c.self.invariant.consistent c.args.head c.requires.frame c.requires.kept c.requires.held)
+freeze-requires-clause-legal g c = may_at _ _ c.args.tables.now.words_are 0 refl c.self.inside.past (Freeze c.args.head 1)
+    (freeze_may g.N.BootName.table (machine_of c.self.inside) _ c.self.view_is c.self.invariant.consistent c.args.head c.requires.frame c.requires.kept c.requires.held)
 
 pub invariant_of-self : goal.invariant_of-self
 invariant_of-self g c =
-    let t = g.N.BootName.frames in
+    let t = g.N.BootName.table in
     let m = machine_of c.self.inside in
     let noted = notes_of_zone t m.run _ c.args.head _ c.number-frame.ensures (λ x. Freeze x 1) Missed
-    (made_at _ _ c.args.tables.now.frames_are 0 refl _ _ _ _ c.if-not-freeze.ensures) (c.take.ensures _ _ (search rules)) in
+    (made_at _ _ c.args.tables.now.words_are 0 refl _ _ _ _ c.if-not-freeze.ensures) (c.take.ensures _ _ (search rules)) in
     let held = held_here t m _ c.self.view_is c.requires.held in
     record {
       consistent = (missed_all t m _ c.self.view_is c.self.invariant.consistent c.args.head c.requires.frame c.requires.kept c.requires.held _
@@ -33,16 +33,16 @@ invariant_of-self g c =
 
 pub returns-then-not-freeze : goal.returns-then-not-freeze
 returns-then-not-freeze g c =
-    let t = g.N.BootName.frames in
+    let t = g.N.BootName.table in
     let m = machine_of c.self.inside in
     let all = missed_all t m _ c.self.view_is c.self.invariant.consistent c.args.head c.requires.frame c.requires.kept c.requires.held _ c.with_miss-self-inside.ensures _
     (notes_of_zone t m.run _ c.args.head _ c.number-frame.ensures (λ x. Freeze x 1) Missed
-    (made_at _ _ c.args.tables.now.frames_are 0 refl _ _ _ _ c.if-not-freeze.ensures) (c.take.ensures _ _ (search rules))) in
+    (made_at _ _ c.args.tables.now.words_are 0 refl _ _ _ _ c.if-not-freeze.ensures) (c.take.ensures _ _ (search rules))) in
     record { evicts = all.misses; visit = all.visit; steps = all.steps }
 
 pub free_unit-requires : goal.free_unit-requires
 free_unit-requires g c =
-    let t = g.N.BootName.frames in
+    let t = g.N.BootName.table in
     let m = machine_of c.self.inside in
     let head = read_head t m c.self.invariant.consistent c.args.head _ c.requires.frame c.number-frame.ensures _ c.in-Head.unit c.index.ensures c.in-Head.is in
     record {
@@ -53,20 +53,20 @@ free_unit-requires g c =
 
 pub make_step-requires-clause-legal : goal.make_step-requires-clause-legal
 make_step-requires-clause-legal g c =
-    let t = g.N.BootName.frames in
+    let t = g.N.BootName.table in
     let m = machine_of c.self.inside in
     let head = read_head t m c.self.invariant.consistent c.args.head _ c.requires.frame c.number-frame.ensures _ c.in-Head.unit c.index.ensures c.in-Head.is in
-    legal_step _ _ _ _ (return_may t m.run.past _ c.args.head _ c.number-frame.ensures (Freeze c.args.head 1) Done (made_at _ _ c.args.tables.now.frames_are 0 refl _ _ _ _ c.if-not-freeze.ensures)
+    legal_step _ _ _ _ (return_may t m.run.past _ c.args.head _ c.number-frame.ensures (Freeze c.args.head 1) Done (made_at _ _ c.args.tables.now.words_are 0 refl _ _ _ _ c.if-not-freeze.ensures)
     (evict_returns t m _ c.self.view_is c.self.invariant.consistent c.args.head _ c.requires.frame c.number-frame.ensures c.requires.kept c.requires.held c.in-Head.unit head)) tt (search rules)
 
 pub invariant_of-self-2 : goal.invariant_of-self-2
 invariant_of-self-2 g c =
-    let t = g.N.BootName.frames in
+    let t = g.N.BootName.table in
     let m = machine_of c.self.inside in
     let head = read_head t m c.self.invariant.consistent c.args.head _ c.requires.frame c.number-frame.ensures _ c.in-Head.unit c.index.ensures c.in-Head.is in
     let noted = notes_back t m.run _ c.args.head _ c.number-frame.ensures (λ x. Freeze x 1) Done
     (notes_of_zone t m.run _ c.args.head _ c.number-frame.ensures (λ x. Freeze x 1) Done
-    (made_at _ _ c.args.tables.now.frames_are 0 refl _ _ _ _ c.if-not-freeze.ensures) (c.take-2.ensures _ _ (search rules))) _ (c.make_step.ensures.notes _ _ (search rules)) in
+    (made_at _ _ c.args.tables.now.words_are 0 refl _ _ _ _ c.if-not-freeze.ensures) (c.take-2.ensures _ _ (search rules))) _ (c.make_step.ensures.notes _ _ (search rules)) in
     let all = evicted_all t m _ c.self.view_is c.self.invariant.consistent c.args.head _ c.requires.frame c.number-frame.ensures c.requires.kept c.requires.held _ _
     c.leave_list.ensures.leaves c.leave_list.ensures.lists.stand c.leave_list.ensures.frames c.leave_list.ensures.lists.groups c.in-Head.unit head _ _ _ _ _ _ _ _
     c.note_unit.ensures c.self.invariant.free c.free_unit.ensures.frame_states c.free_unit.ensures.frames c.free_unit.ensures.areas c.free_unit.ensures.charges
@@ -81,12 +81,12 @@ invariant_of-self-2 g c =
 
 pub returns : goal.returns
 returns g c =
-    let t = g.N.BootName.frames in
+    let t = g.N.BootName.table in
     let m = machine_of c.self.inside in
     let head = read_head t m c.self.invariant.consistent c.args.head _ c.requires.frame c.number-frame.ensures _ c.in-Head.unit c.index.ensures c.in-Head.is in
     let noted = notes_back t m.run _ c.args.head _ c.number-frame.ensures (λ x. Freeze x 1) Done
     (notes_of_zone t m.run _ c.args.head _ c.number-frame.ensures (λ x. Freeze x 1) Done
-    (made_at _ _ c.args.tables.now.frames_are 0 refl _ _ _ _ c.if-not-freeze.ensures) (c.take-2.ensures _ _ (search rules))) _ (c.make_step.ensures.notes _ _ (search rules)) in
+    (made_at _ _ c.args.tables.now.words_are 0 refl _ _ _ _ c.if-not-freeze.ensures) (c.take-2.ensures _ _ (search rules))) _ (c.make_step.ensures.notes _ _ (search rules)) in
     let all = evicted_all t m _ c.self.view_is c.self.invariant.consistent c.args.head _ c.requires.frame c.number-frame.ensures c.requires.kept c.requires.held _ _
     c.leave_list.ensures.leaves c.leave_list.ensures.lists.stand c.leave_list.ensures.frames c.leave_list.ensures.lists.groups c.in-Head.unit head _ _ _ _ _ _ _ _
     c.note_unit.ensures c.self.invariant.free c.free_unit.ensures.frame_states c.free_unit.ensures.frames c.free_unit.ensures.areas c.free_unit.ensures.charges

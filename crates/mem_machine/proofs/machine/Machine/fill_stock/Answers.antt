@@ -1,5 +1,4 @@
 use Rattle.std.proofs.Common.{◌≡◌, ℕ, ◌+◌, ◌<◌, ◌^◌, IsTrue, refl, sym, ap, ◌∙◌, subst, arith, rules}
-use Rattle.frame_word.specs.Seats.{KnownTable}
 use Rattle.group_tree.specs.Groups.{has_group}
 use Rattle.group_charge.specs.Charges.{current_of}
 use Rattle.step_rules.specs.declared.step.Action.TheVariants.{Fill, Grant}
@@ -7,6 +6,7 @@ use Rattle.step_rules.specs.declared.step.Answer.TheVariants.{Granted}
 use Rattle.step_rules.specs.State.{State}
 use Rattle.boot_words.specs.Pasts.{MayMake, local_by_pasts}
 use Rattle.step_rules.specs.Laws.{IsLocalStep}
+use Rattle.boot_words.specs.Tables.{KnownTable}
 use Rattle.mem_machine.specs.{machine_of, local_of, KnownMachine}
 use Rattle.mem_machine.proofs.Noted.{legal_step}
 use Rattle.mem_machine.proofs.Prepaying.{fill_fits, fill_leads, fill_may, fill_noted, filled_now, filled_sound, filler_is, knows_fill, nothing_booked, refused_may, refused_now, refused_sound, refused_visits}
@@ -22,7 +22,7 @@ try_charge-requires-clause-fits g c = subst (λ (m : KnownMachine). current_of m
 
 pub make_step-requires-clause-legal : goal.make_step-requires-clause-legal
 make_step-requires-clause-legal g c =
-    let t = g.N.BootName.frames in
+    let t = g.N.BootName.table in
     let m = machine_of c.self.inside in
     let cpu = c.args.cpu.now in
     let knows = knows_fill t m _ c.self.view_is cpu c.args.group c.args.pages c.requires.visit c.requires.charges c.requires.drained in
@@ -32,7 +32,7 @@ make_step-requires-clause-legal g c =
 
 pub invariant_of-self : goal.invariant_of-self
 invariant_of-self g c =
-    let t = g.N.BootName.frames in
+    let t = g.N.BootName.table in
     let m = machine_of c.self.inside in
     let cpu = c.args.cpu.now in
     let knows = knows_fill t m _ c.self.view_is cpu c.args.group c.args.pages c.requires.visit c.requires.charges c.requires.drained in
@@ -42,7 +42,7 @@ invariant_of-self g c =
 
 pub returns-in-Err-clause-refused : goal.returns-in-Err-clause-refused
 returns-in-Err-clause-refused g c =
-    let t = g.N.BootName.frames in
+    let t = g.N.BootName.table in
     let m = machine_of c.self.inside in
     let cpu = c.args.cpu.now in
     let knows = knows_fill t m _ c.self.view_is cpu c.args.group c.args.pages c.requires.visit c.requires.charges c.requires.drained in
@@ -53,7 +53,7 @@ returns-in-Err-clause-refused g c =
 
 pub returns-in-Err-clause-visit : goal.returns-in-Err-clause-visit
 returns-in-Err-clause-visit g c =
-    let t = g.N.BootName.frames in
+    let t = g.N.BootName.table in
     let m = machine_of c.self.inside in
     let cpu = c.args.cpu.now in
     let knows = knows_fill t m _ c.self.view_is cpu c.args.group c.args.pages c.requires.visit c.requires.charges c.requires.drained in
@@ -65,7 +65,7 @@ returns-in-Err-clause-visit g c =
 
 pub make_step-requires-2-clause-legal : goal.make_step-requires-2-clause-legal
 make_step-requires-2-clause-legal g c =
-    let t = g.N.BootName.frames in
+    let t = g.N.BootName.table in
     let m = machine_of c.self.inside in
     let cpu = c.args.cpu.now in
     let knows = knows_fill t m _ c.self.view_is cpu c.args.group c.args.pages c.requires.visit c.requires.charges c.requires.drained in
@@ -76,46 +76,46 @@ make_step-requires-2-clause-legal g c =
 
 pub fill-requires-clause-cpu : goal.fill-requires-clause-cpu
 fill-requires-clause-cpu g c =
-    let t = g.N.BootName.frames in
+    let t = g.N.BootName.table in
     let m = machine_of c.self.inside in
     let cpu = c.args.cpu.now in
     let knows = knows_fill t m _ c.self.view_is cpu c.args.group c.args.pages c.requires.visit c.requires.charges c.requires.drained in
     let ok = c.self.invariant.consistent in
     let facts = c.prove_charges.ensures.legal in
     let inside = (filler_is t m cpu ok facts knows.visit c.requires.none_fresh knows.drained).1 in
-    let same = ap (λ (x : KnownTable). x.cpus) c.args.tables.now.frames_are in
+    let same = ap (λ (x : KnownTable). x.cpus) c.args.tables.now.words_are in
     omega (arith, inside, same, c.number-cpu_number.ensures.number)
 
 pub fill-requires-clause-nothing : goal.fill-requires-clause-nothing
 fill-requires-clause-nothing g c =
-    let t = g.N.BootName.frames in
+    let t = g.N.BootName.table in
     let m = machine_of c.self.inside in
     let cpu = c.args.cpu.now in
     let knows = knows_fill t m _ c.self.view_is cpu c.args.group c.args.pages c.requires.visit c.requires.charges c.requires.drained in
     let ok = c.self.invariant.consistent in
     let facts = c.prove_charges.ensures.legal in
     subst (λ (x : KnownTable × ℕ). ((local_by_pasts x.0 c.make_step-2.new.past).parts x.1).book ≡ 0)
-    (λ i. (sym c.args.tables.now.frames_are i, sym c.number-cpu_number.ensures.number i))
+    (λ i. (sym c.args.tables.now.words_are i, sym c.number-cpu_number.ensures.number i))
     (ap (λ (s : State). (s.parts cpu.number).book) (c.make_step-2.ensures.run (Grant c.args.group c.args.pages) Granted (search rules)).local_is
     ∙ nothing_booked t m cpu ok facts knows.visit c.requires.none_fresh knows.drained)
 
 -- the fill is the second step, legal because nothing is booked for the CPU
 pub fill-requires-clause-legal : goal.fill-requires-clause-legal
 fill-requires-clause-legal g c =
-    let t = g.N.BootName.frames in
+    let t = g.N.BootName.table in
     let m = machine_of c.self.inside in
     let cpu = c.args.cpu.now in
     let knows = knows_fill t m _ c.self.view_is cpu c.args.group c.args.pages c.requires.visit c.requires.charges c.requires.drained in
     let ok = c.self.invariant.consistent in
     let facts = c.prove_charges.ensures.legal in
     subst (λ (x : KnownTable × ℕ × ℕ). MayMake x.0 c.make_step-2.new.past 0 (Fill x.1 x.2 c.args.pages))
-    (λ i. (sym c.args.tables.now.frames_are i, sym c.number-cpu_number.ensures.number i, sym c.number-owner.ensures.value i))
+    (λ i. (sym c.args.tables.now.words_are i, sym c.number-cpu_number.ensures.number i, sym c.number-owner.ensures.value i))
     ((fill_may t m cpu ok facts knows.visit c.requires.none_fresh knows.drained c.args.group c.args.pages knows.there knows.alive (c.in_default.ensures.granted.0 refl)).1
     _ (c.make_step-2.ensures.run _ _ (search rules))).0.legal
 
 pub overflow_add-self : goal.overflow_add-self
 overflow_add-self g c =
-    let t = g.N.BootName.frames in
+    let t = g.N.BootName.table in
     let m = machine_of c.self.inside in
     let cpu = c.args.cpu.now in
     let knows = knows_fill t m _ c.self.view_is cpu c.args.group c.args.pages c.requires.visit c.requires.charges c.requires.drained in
@@ -127,7 +127,7 @@ overflow_add-self g c =
 
 pub set-requires : goal.set-requires
 set-requires g c =
-    let t = g.N.BootName.frames in
+    let t = g.N.BootName.table in
     let m = machine_of c.self.inside in
     let cpu = c.args.cpu.now in
     let knows = knows_fill t m _ c.self.view_is cpu c.args.group c.args.pages c.requires.visit c.requires.charges c.requires.drained in
@@ -139,49 +139,49 @@ set-requires g c =
 
 pub invariant_of-self-2 : goal.invariant_of-self-2
 invariant_of-self-2 g c =
-    let t = g.N.BootName.frames in
+    let t = g.N.BootName.table in
     let m = machine_of c.self.inside in
     let cpu = c.args.cpu.now in
     let knows = knows_fill t m _ c.self.view_is cpu c.args.group c.args.pages c.requires.visit c.requires.charges c.requires.drained in
     let ok = c.self.invariant.consistent in
     let facts = c.prove_charges.ensures.legal in
-    let noted = fill_noted t _ c.args.tables.now.frames_are m.run cpu.number c.args.group c.args.pages _ _ c.number-cpu_number.ensures.number c.number-owner.ensures.value _
+    let noted = fill_noted t _ c.args.tables.now.words_are m.run cpu.number c.args.group c.args.pages _ _ c.number-cpu_number.ensures.number c.number-owner.ensures.value _
     (c.make_step-2.ensures.notes _ _ (search rules)) _ _ c.fill.ensures (c.take.ensures _ _ (search rules)) in
     filled_sound t c.self.inside c.self.invariant cpu c.args.group c.args.pages facts knows c.requires.none_fresh (c.in_default.ensures.granted.0 refl) _ noted c.requires.pages.1
     c.number-owner.result c.number-owner.ensures.value c.number-owner.ensures.below _ c.number-cpu_number.ensures.number _ c.in_default.ensures.charged _ c.set.ensures
 
 pub returns-clause-fills : goal.returns-clause-fills
 returns-clause-fills g c =
-    let t = g.N.BootName.frames in
+    let t = g.N.BootName.table in
     let m = machine_of c.self.inside in
     let cpu = c.args.cpu.now in
     let knows = knows_fill t m _ c.self.view_is cpu c.args.group c.args.pages c.requires.visit c.requires.charges c.requires.drained in
     let ok = c.self.invariant.consistent in
     let facts = c.prove_charges.ensures.legal in
-    let noted = fill_noted t _ c.args.tables.now.frames_are m.run cpu.number c.args.group c.args.pages _ _ c.number-cpu_number.ensures.number c.number-owner.ensures.value _
+    let noted = fill_noted t _ c.args.tables.now.words_are m.run cpu.number c.args.group c.args.pages _ _ c.number-cpu_number.ensures.number c.number-owner.ensures.value _
     (c.make_step-2.ensures.notes _ _ (search rules)) _ _ c.fill.ensures (c.take.ensures _ _ (search rules)) in
     (filled_now t m _ c.self.view_is cpu c.args.group c.args.pages ok facts knows c.requires.none_fresh (c.in_default.ensures.granted.0 refl) _ noted _ c.in_default.ensures.charged).fills
 
 pub returns-clause-steps : goal.returns-clause-steps
 returns-clause-steps g c =
-    let t = g.N.BootName.frames in
+    let t = g.N.BootName.table in
     let m = machine_of c.self.inside in
     let cpu = c.args.cpu.now in
     let knows = knows_fill t m _ c.self.view_is cpu c.args.group c.args.pages c.requires.visit c.requires.charges c.requires.drained in
     let ok = c.self.invariant.consistent in
     let facts = c.prove_charges.ensures.legal in
-    let noted = fill_noted t _ c.args.tables.now.frames_are m.run cpu.number c.args.group c.args.pages _ _ c.number-cpu_number.ensures.number c.number-owner.ensures.value _
+    let noted = fill_noted t _ c.args.tables.now.words_are m.run cpu.number c.args.group c.args.pages _ _ c.number-cpu_number.ensures.number c.number-owner.ensures.value _
     (c.make_step-2.ensures.notes _ _ (search rules)) _ _ c.fill.ensures (c.take.ensures _ _ (search rules)) in
     (filled_now t m _ c.self.view_is cpu c.args.group c.args.pages ok facts knows c.requires.none_fresh (c.in_default.ensures.granted.0 refl) _ noted _ c.in_default.ensures.charged).steps
 
 pub returns-clause-visit : goal.returns-clause-visit
 returns-clause-visit g c =
-    let t = g.N.BootName.frames in
+    let t = g.N.BootName.table in
     let m = machine_of c.self.inside in
     let cpu = c.args.cpu.now in
     let knows = knows_fill t m _ c.self.view_is cpu c.args.group c.args.pages c.requires.visit c.requires.charges c.requires.drained in
     let ok = c.self.invariant.consistent in
     let facts = c.prove_charges.ensures.legal in
-    let noted = fill_noted t _ c.args.tables.now.frames_are m.run cpu.number c.args.group c.args.pages _ _ c.number-cpu_number.ensures.number c.number-owner.ensures.value _
+    let noted = fill_noted t _ c.args.tables.now.words_are m.run cpu.number c.args.group c.args.pages _ _ c.number-cpu_number.ensures.number c.number-owner.ensures.value _
     (c.make_step-2.ensures.notes _ _ (search rules)) _ _ c.fill.ensures (c.take.ensures _ _ (search rules)) in
     (filled_now t m _ c.self.view_is cpu c.args.group c.args.pages ok facts knows c.requires.none_fresh (c.in_default.ensures.granted.0 refl) _ noted _ c.in_default.ensures.charged).visit

@@ -1,13 +1,12 @@
 use Rattle.std.proofs.Common.{◌<◌, rules, sym, arith}
 use Rattle.mem_machine.specs.Kept.{machine_of}
-use Rattle.mem_machine.proofs.Fresh.{away_here, collect_legal, keep_all, kept_notes, may_publish, may_unfreeze, none_reported_here, sum_some, unfrozen_notes, within_here}
+use Rattle.mem_machine.proofs.Fresh.{away_here, collect_legal, keep_all, kept_notes, may_publish, none_reported_here, sum_some, within_here}
 use Rattle.mem_machine.proofs.Made.{visits_here}
-use Rattle.mem_machine.proofs.Noted.{legal_step}
 use Rattle.mem_machine.proofs.machine.Machine.keep_one.Goals as goal
 
 pub collect_fresh-head-requires : goal.collect_fresh-head-requires
 collect_fresh-head-requires g c =
-    let t = g.N.BootName.frames in
+    let t = g.N.BootName.table in
     let m = machine_of c.self.inside in
     let fits : c.args.group < 64 = search rules in
     let visit = visits_here t m _ c.self.view_is c.args.cpu.now c.requires.visit in
@@ -21,46 +20,38 @@ collect_fresh-head-requires g c =
           c.requires.fresh;
     }
 
-pub unfreeze-requires-clause-legal : goal.unfreeze-requires-clause-legal
-unfreeze-requires-clause-legal g c =
-    let e = c.collect_fresh-head.ensures in
-    may_unfreeze g.N.BootName.frames (machine_of c.self.inside) _ c.self.view_is c.args.cpu.now c.requires.visit c.self.invariant.consistent c.args.group c.requires.group
-    c.collect_fresh-head.result _ e.cpu.front _ e.notes _ c.args.tables.now.frames_are
-
 pub index_mut-requires : goal.index_mut-requires
 index_mut-requires g c =
-    let inside = within_here g.N.BootName.frames (machine_of c.self.inside) _ c.self.view_is c.args.cpu.now c.requires.visit c.self.invariant.consistent c.args.group
+    let inside = within_here g.N.BootName.table (machine_of c.self.inside) _ c.self.view_is c.args.cpu.now c.requires.visit c.self.invariant.consistent c.args.group
     c.requires.group c.collect_fresh-head.result _ c.collect_fresh-head.ensures.cpu.front _ c.number-frame.ensures in
     omega (arith, inside)
 
 pub join_list-requires-clause-frame : goal.join_list-requires-clause-frame
 join_list-requires-clause-frame g c =
-    let inside = within_here g.N.BootName.frames (machine_of c.self.inside) _ c.self.view_is c.args.cpu.now c.requires.visit c.self.invariant.consistent c.args.group
+    let inside = within_here g.N.BootName.table (machine_of c.self.inside) _ c.self.view_is c.args.cpu.now c.requires.visit c.self.invariant.consistent c.args.group
     c.requires.group c.collect_fresh-head.result _ c.collect_fresh-head.ensures.cpu.front _ c.number-frame.ensures in
     let sizes = c.self.invariant.consistent.sizes in
     omega (arith, inside, sizes.frame_states, sizes.links)
 
 pub join_list-requires-clause-away : goal.join_list-requires-clause-away
 join_list-requires-clause-away g c =
-    away_here g.N.BootName.frames (machine_of c.self.inside) _ c.self.view_is c.args.cpu.now c.requires.visit c.self.invariant.consistent c.args.group c.requires.group
+    away_here g.N.BootName.table (machine_of c.self.inside) _ c.self.view_is c.args.cpu.now c.requires.visit c.self.invariant.consistent c.args.group c.requires.group
     c.collect_fresh-head.result _ c.collect_fresh-head.ensures.cpu.front _ c.number-frame.ensures
 
-pub make_step-requires-clause-legal : goal.make_step-requires-clause-legal
-make_step-requires-clause-legal g c =
+pub publish-requires-clause-legal : goal.publish-requires-clause-legal
+publish-requires-clause-legal g c =
     let e = c.collect_fresh-head.ensures in
-    legal_step _ _ _ _ (may_publish g.N.BootName.frames (machine_of c.self.inside) _ c.self.view_is c.args.cpu.now c.requires.visit c.self.invariant.consistent c.args.group c.requires.group
-    c.collect_fresh-head.result _ e.cpu.front _ e.notes (record { past = c.unfreeze.new.held; watch = c.take.new.self })
-    (unfrozen_notes g.N.BootName.frames _ c.args.tables.now.frames_are _ _ _ _ c.number-frame.ensures c.unfreeze.ensures (c.take.ensures _ _ (search rules))) _ c.number-frame.ensures) tt (search rules)
+    may_publish g.N.BootName.table (machine_of c.self.inside) _ c.self.view_is c.args.cpu.now c.requires.visit c.self.invariant.consistent c.args.group c.requires.group
+    c.collect_fresh-head.result _ e.cpu.front _ e.notes
 
 pub invariant_of-self : goal.invariant_of-self
 invariant_of-self g c =
-    let t = g.N.BootName.frames in
+    let t = g.N.BootName.table in
     let fits : c.args.group < 64 = search rules in
     let e = c.collect_fresh-head.ensures in
     let a = c.join_list.ensures in
     let notes = kept_notes t (machine_of c.self.inside) _ c.self.view_is c.args.cpu.now c.requires.visit c.self.invariant.consistent c.args.group c.requires.group
-    c.collect_fresh-head.result _ e.cpu.front _ e.notes (record { past = c.unfreeze.new.held; watch = c.take.new.self })
-    (unfrozen_notes t _ c.args.tables.now.frames_are _ _ _ _ c.number-frame.ensures c.unfreeze.ensures (c.take.ensures _ _ (search rules))) _ _ c.number-frame.ensures (c.make_step.ensures.notes _ _ (search rules)) in
+    c.collect_fresh-head.result _ e.cpu.front _ e.notes _ c.publish.ensures in
     let all = keep_all t (machine_of c.self.inside) _ c.self.view_is c.args.cpu.now c.requires.visit c.self.invariant.consistent c.args.group c.requires.group
     c.collect_fresh-head.result _ e.cpu.front _ _ _ _ c.self.invariant.free c.self.invariant.sums c.self.invariant.owners fits _ e.cpu e.sums _ _ c.number-frame.ensures
     c.single_order-order.ensures _ _ (record { joins = a.joins; stand = a.lists.stand; frames = a.frames; groups = a.lists.groups }) _ notes in
@@ -68,13 +59,12 @@ invariant_of-self g c =
 
 pub returns : goal.returns
 returns g c =
-    let t = g.N.BootName.frames in
+    let t = g.N.BootName.table in
     let fits : c.args.group < 64 = search rules in
     let e = c.collect_fresh-head.ensures in
     let a = c.join_list.ensures in
     let notes = kept_notes t (machine_of c.self.inside) _ c.self.view_is c.args.cpu.now c.requires.visit c.self.invariant.consistent c.args.group c.requires.group
-    c.collect_fresh-head.result _ e.cpu.front _ e.notes (record { past = c.unfreeze.new.held; watch = c.take.new.self })
-    (unfrozen_notes t _ c.args.tables.now.frames_are _ _ _ _ c.number-frame.ensures c.unfreeze.ensures (c.take.ensures _ _ (search rules))) _ _ c.number-frame.ensures (c.make_step.ensures.notes _ _ (search rules)) in
+    c.collect_fresh-head.result _ e.cpu.front _ e.notes _ c.publish.ensures in
     let all = keep_all t (machine_of c.self.inside) _ c.self.view_is c.args.cpu.now c.requires.visit c.self.invariant.consistent c.args.group c.requires.group
     c.collect_fresh-head.result _ e.cpu.front _ _ _ _ c.self.invariant.free c.self.invariant.sums c.self.invariant.owners fits _ e.cpu e.sums _ _ c.number-frame.ensures
     c.single_order-order.ensures _ _ (record { joins = a.joins; stand = a.lists.stand; frames = a.frames; groups = a.lists.groups }) _ notes in

@@ -1,12 +1,14 @@
 use Rattle.std.proofs.Common.{◌<◌, sym, arith, rules}
 use Rattle.mem_machine.specs.Kept.{machine_of}
-use Rattle.mem_machine.proofs.Lends.{given_free, lent_all, lent_notes, may_lend, number_low}
+use Rattle.mem_machine.specs.Steps.{lend_steps}
+use Rattle.mem_machine.proofs.Collecting.{turn_notes}
+use Rattle.mem_machine.proofs.Lends.{given_free, lent_all, may_lend, number_low}
 use Rattle.mem_machine.proofs.Made.{visits_here}
 use Rattle.mem_machine.proofs.machine.Machine.lend.Goals as goal
 
 pub borrow-requires : goal.borrow-requires
 borrow-requires g c =
-    let t = g.N.BootName.frames in
+    let t = g.N.BootName.table in
     let m = machine_of c.self.inside in
     let visit = visits_here t m _ c.self.view_is c.args.cpu.now c.requires.visit in
     record {
@@ -18,7 +20,7 @@ borrow-requires g c =
 
 pub overflow_cast-cpu_number : goal.overflow_cast-cpu_number
 overflow_cast-cpu_number g c =
-    let low = number_low g.N.BootName.frames (machine_of c.self.inside) _ c.self.view_is c.args.cpu.now c.requires.visit in
+    let low = number_low g.N.BootName.table (machine_of c.self.inside) _ c.self.view_is c.args.cpu.now c.requires.visit in
     let few = c.prove_sizes.ensures.few in
     let named = c.number-cpu_number.ensures.number in
     let small : c.number-cpu_number.result < 256 = omega (arith, low, few, named) in
@@ -26,15 +28,15 @@ overflow_cast-cpu_number g c =
 
 pub take_frame-requires : goal.take_frame-requires
 take_frame-requires g c =
-    given_free g.N.BootName.frames (machine_of c.self.inside) _ c.self.view_is c.args.cpu.now c.requires.visit c.self.invariant.consistent c.args.frame c.requires.frame c.requires.free
+    given_free g.N.BootName.table (machine_of c.self.inside) _ c.self.view_is c.args.cpu.now c.requires.visit c.self.invariant.consistent c.args.frame c.requires.frame c.requires.free
     _ _ c.self.invariant.free c.number-given.ensures
 
 pub invariant_of-self : goal.invariant_of-self
 invariant_of-self g c =
-    let t = g.N.BootName.frames in
+    let t = g.N.BootName.table in
     let m = machine_of c.self.inside in
     let visit = visits_here t m _ c.self.view_is c.args.cpu.now c.requires.visit in
-    let noted = lent_notes t (machine_of c.self.inside).run c.args.cpu.now.number c.args.frame _ _ c.number-given.ensures c.number-cpu_number.ensures.number _ _ visit.held
+    let noted = turn_notes lend_steps t (machine_of c.self.inside).run c.args.cpu.now.number c.args.frame _ _ c.number-given.ensures c.number-cpu_number.ensures.number _ _ visit.held
     c.borrow.ensures.run c.watch_lent.ensures in
     let all = lent_all t (machine_of c.self.inside) _ c.self.view_is c.args.cpu.now c.requires.visit c.self.invariant.consistent c.args.frame c.requires.frame c.requires.free
     _ _ _ _ _ _ _ _ c.self.invariant.free c.self.invariant.sums c.self.invariant.owners c.take_frame.ensures.frames c.take_frame.ensures.areas c.number-given.ensures
@@ -43,10 +45,10 @@ invariant_of-self g c =
 
 pub returns : goal.returns
 returns g c =
-    let t = g.N.BootName.frames in
+    let t = g.N.BootName.table in
     let m = machine_of c.self.inside in
     let visit = visits_here t m _ c.self.view_is c.args.cpu.now c.requires.visit in
-    let noted = lent_notes t (machine_of c.self.inside).run c.args.cpu.now.number c.args.frame _ _ c.number-given.ensures c.number-cpu_number.ensures.number _ _ visit.held
+    let noted = turn_notes lend_steps t (machine_of c.self.inside).run c.args.cpu.now.number c.args.frame _ _ c.number-given.ensures c.number-cpu_number.ensures.number _ _ visit.held
     c.borrow.ensures.run c.watch_lent.ensures in
     let all = lent_all t (machine_of c.self.inside) _ c.self.view_is c.args.cpu.now c.requires.visit c.self.invariant.consistent c.args.frame c.requires.frame c.requires.free
     _ _ _ _ _ _ _ _ c.self.invariant.free c.self.invariant.sums c.self.invariant.owners c.take_frame.ensures.frames c.take_frame.ensures.areas c.number-given.ensures

@@ -1,14 +1,16 @@
 use Rattle.std.proofs.Common.{◌<◌, ◌≤◌, ap, sym, subst, arith, rules}
 use Rattle.zone_blocks.specs.Zone.{BuddyZone}
-use Rattle.frame_word.specs.Seats.{KnownTable}
+use Rattle.boot_words.specs.Tables.{KnownTable}
 use Rattle.mem_machine.specs.Kept.{machine_of}
-use Rattle.mem_machine.proofs.Lends.{block_inside, first_lent, lent_notes, lent_to_none, may_lend_first, number_low}
+use Rattle.mem_machine.specs.Steps.{lend_steps}
+use Rattle.mem_machine.proofs.Collecting.{turn_notes}
+use Rattle.mem_machine.proofs.Lends.{block_inside, first_lent, lent_to_none, may_lend_first, number_low}
 use Rattle.mem_machine.proofs.Made.{visits_here}
 use Rattle.mem_machine.proofs.machine.Machine.lend_one.Goals as goal
 
 pub borrow-requires : goal.borrow-requires
 borrow-requires g c =
-    let t = g.N.BootName.frames in
+    let t = g.N.BootName.table in
     let m = machine_of c.self.inside in
     let visit = visits_here t m _ c.self.view_is c.args.cpu.now c.requires.visit in
     record {
@@ -21,7 +23,7 @@ borrow-requires g c =
 
 pub overflow_cast-cpu_number : goal.overflow_cast-cpu_number
 overflow_cast-cpu_number g c =
-    let low = number_low g.N.BootName.frames (machine_of c.self.inside) _ c.self.view_is c.args.cpu.now c.requires.visit in
+    let low = number_low g.N.BootName.table (machine_of c.self.inside) _ c.self.view_is c.args.cpu.now c.requires.visit in
     let few = c.prove_sizes.ensures.few in
     let named = c.number-cpu_number.ensures.number in
     let small : c.number-cpu_number.result < 256 = omega (arith, low, few, named) in
@@ -33,10 +35,10 @@ returns-in_default-clause-lends g c =
 
 pub invariant_of-self-2 : goal.invariant_of-self-2
 invariant_of-self-2 g c =
-    let t = g.N.BootName.frames in
+    let t = g.N.BootName.table in
     let m = machine_of c.self.inside in
     let visit = visits_here t m _ c.self.view_is c.args.cpu.now c.requires.visit in
-    let noted = lent_notes t (machine_of c.self.inside).run c.args.cpu.now.number c.in-Some-frame.frame _ _ c.number-at.ensures c.number-cpu_number.ensures.number _ _ visit.held
+    let noted = turn_notes lend_steps t (machine_of c.self.inside).run c.args.cpu.now.number c.in-Some-frame.frame _ _ c.number-at.ensures c.number-cpu_number.ensures.number _ _ visit.held
     c.borrow.ensures.run c.watch_lent.ensures in
     let all = first_lent t (machine_of c.self.inside) _ c.self.view_is c.args.cpu.now c.requires.visit c.self.invariant.consistent
     _ _ c.single_order.result c.in-Some.block c.in-Some-frame.frame c.self.invariant.free c.single_order.ensures c.in-Some.ensures.taken c.in-Some.ensures.frames c.in-Some-frame.ensures.0
@@ -45,10 +47,10 @@ invariant_of-self-2 g c =
 
 pub returns : goal.returns
 returns g c =
-    let t = g.N.BootName.frames in
+    let t = g.N.BootName.table in
     let m = machine_of c.self.inside in
     let visit = visits_here t m _ c.self.view_is c.args.cpu.now c.requires.visit in
-    let noted = lent_notes t (machine_of c.self.inside).run c.args.cpu.now.number c.in-Some-frame.frame _ _ c.number-at.ensures c.number-cpu_number.ensures.number _ _ visit.held
+    let noted = turn_notes lend_steps t (machine_of c.self.inside).run c.args.cpu.now.number c.in-Some-frame.frame _ _ c.number-at.ensures c.number-cpu_number.ensures.number _ _ visit.held
     c.borrow.ensures.run c.watch_lent.ensures in
     let all = first_lent t (machine_of c.self.inside) _ c.self.view_is c.args.cpu.now c.requires.visit c.self.invariant.consistent
     _ _ c.single_order.result c.in-Some.block c.in-Some-frame.frame c.self.invariant.free c.single_order.ensures c.in-Some.ensures.taken c.in-Some.ensures.frames c.in-Some-frame.ensures.0
@@ -58,7 +60,7 @@ returns g c =
 pub unreachable-requires : goal.unreachable-requires
 unreachable-requires g c =
     let there = block_inside _ _ _ _ c.single_order.result c.in-Some.block c.self.invariant.free c.single_order.ensures c.in-Some.ensures.taken c.in-Some.ensures.frames in
-    let past : g.N.BootName.frames.frames ≤ c.in-Some.block.at = search rules in
+    let past : g.N.BootName.table.frames ≤ c.in-Some.block.at = search rules in
     let inside = there.0 in
     let sized = c.self.invariant.consistent.sizes.frame_states in
     omega (arith, past, inside, sized)
@@ -67,4 +69,4 @@ pub invariant_of-self : goal.invariant_of-self
 invariant_of-self g c = search rules
 
 pub index_mut-requires : goal.index_mut-requires
-index_mut-requires g c = omega (arith, subst (λ (t : KnownTable). c.in-Some-frame.frame < t.frames) c.args.tables.now.frames_are c.in-Some-frame.ensures.1, c.number-at.ensures, c.self.invariant.consistent.sizes.frame_states)
+index_mut-requires g c = omega (arith, subst (λ (t : KnownTable). c.in-Some-frame.frame < t.frames) c.args.tables.now.words_are c.in-Some-frame.ensures.1, c.number-at.ensures, c.self.invariant.consistent.sizes.frame_states)

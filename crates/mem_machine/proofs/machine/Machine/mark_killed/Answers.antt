@@ -10,7 +10,7 @@ use Rattle.mem_machine.proofs.Noted.{legal_step}
 use Rattle.mem_machine.proofs.machine.Machine.mark_killed.Goals as goal
 
 pub make_step-requires-clause-held : goal.make_step-requires-clause-held
-make_step-requires-clause-held g c = held_here g.N.BootName.frames (machine_of c.self.inside) _ c.self.view_is c.requires.held
+make_step-requires-clause-held g c = held_here g.N.BootName.table (machine_of c.self.inside) _ c.self.view_is c.requires.held
 
 pub make_step-requires-clause-legal : goal.make_step-requires-clause-legal
 make_step-requires-clause-legal g c =
@@ -18,7 +18,7 @@ make_step-requires-clause-legal g c =
     let below = c.number.ensures.below in
     let sized = c.self.invariant.consistent.sizes.killed in
     let inside : c.args.group < length c.self.inside.killed.items = omega (arith, value, below, sized) in
-    legal_step _ _ _ _ (kills g.N.BootName.frames (machine_of c.self.inside) _ c.self.view_is c.self.invariant.consistent c.requires.held c.args.group c.requires.there inside c.requires.alive _
+    legal_step _ _ _ _ (kills g.N.BootName.table (machine_of c.self.inside) _ c.self.view_is c.self.invariant.consistent c.requires.held c.args.group c.requires.there inside c.requires.alive _
     c.note.ensures.only.groups c.note.ensures.only.counts c.note.ensures.only.peaks _ (ap (λ (n : ℕ). slice_set c.self.inside.killed.items n true) value)).step tt (search rules)
 
 pub invariant_of-self : goal.invariant_of-self
@@ -27,8 +27,8 @@ invariant_of-self g c =
     let below = c.number.ensures.below in
     let sized = c.self.invariant.consistent.sizes.killed in
     let inside : c.args.group < length c.self.inside.killed.items = omega (arith, value, below, sized) in
-    let all = grouped g.N.BootName.frames (machine_of c.self.inside) c.self.invariant.consistent (held_here g.N.BootName.frames (machine_of c.self.inside) _ c.self.view_is c.requires.held) _ _ _
-    (kills g.N.BootName.frames (machine_of c.self.inside) _ c.self.view_is c.self.invariant.consistent c.requires.held c.args.group c.requires.there inside c.requires.alive _
+    let all = grouped g.N.BootName.table (machine_of c.self.inside) c.self.invariant.consistent (held_here g.N.BootName.table (machine_of c.self.inside) _ c.self.view_is c.requires.held) _ _ _
+    (kills g.N.BootName.table (machine_of c.self.inside) _ c.self.view_is c.self.invariant.consistent c.requires.held c.args.group c.requires.there inside c.requires.alive _
     c.note.ensures.only.groups c.note.ensures.only.counts c.note.ensures.only.peaks _ (ap (λ (n : ℕ). slice_set c.self.inside.killed.items n true) value))
     c.note.ensures.only.pages (length-set c.self.inside.killed.items c.number.result true ∙ sized) _ (c.make_step.ensures.notes _ _ (search rules)) _ refl in
     record { consistent = all.consistent; free = c.self.invariant.free; sums = all.sums _ c.self.invariant.sums; owners = all.owners _ c.self.invariant.owners }
@@ -39,8 +39,8 @@ returns-clause-steps g c =
     let below = c.number.ensures.below in
     let sized = c.self.invariant.consistent.sizes.killed in
     let inside : c.args.group < length c.self.inside.killed.items = omega (arith, value, below, sized) in
-    (grouped g.N.BootName.frames (machine_of c.self.inside) c.self.invariant.consistent (held_here g.N.BootName.frames (machine_of c.self.inside) _ c.self.view_is c.requires.held) _ _ _
-    (kills g.N.BootName.frames (machine_of c.self.inside) _ c.self.view_is c.self.invariant.consistent c.requires.held c.args.group c.requires.there inside c.requires.alive _
+    (grouped g.N.BootName.table (machine_of c.self.inside) c.self.invariant.consistent (held_here g.N.BootName.table (machine_of c.self.inside) _ c.self.view_is c.requires.held) _ _ _
+    (kills g.N.BootName.table (machine_of c.self.inside) _ c.self.view_is c.self.invariant.consistent c.requires.held c.args.group c.requires.there inside c.requires.alive _
     c.note.ensures.only.groups c.note.ensures.only.counts c.note.ensures.only.peaks _ (ap (λ (n : ℕ). slice_set c.self.inside.killed.items n true) value))
     c.note.ensures.only.pages (length-set c.self.inside.killed.items c.number.result true ∙ sized) _ (c.make_step.ensures.notes _ _ (search rules)) _ c.self.view_is).steps
 
@@ -50,8 +50,8 @@ returns-clause-visit g c =
     let below = c.number.ensures.below in
     let sized = c.self.invariant.consistent.sizes.killed in
     let inside : c.args.group < length c.self.inside.killed.items = omega (arith, value, below, sized) in
-    (grouped g.N.BootName.frames (machine_of c.self.inside) c.self.invariant.consistent (held_here g.N.BootName.frames (machine_of c.self.inside) _ c.self.view_is c.requires.held) _ _ _
-    (kills g.N.BootName.frames (machine_of c.self.inside) _ c.self.view_is c.self.invariant.consistent c.requires.held c.args.group c.requires.there inside c.requires.alive _
+    (grouped g.N.BootName.table (machine_of c.self.inside) c.self.invariant.consistent (held_here g.N.BootName.table (machine_of c.self.inside) _ c.self.view_is c.requires.held) _ _ _
+    (kills g.N.BootName.table (machine_of c.self.inside) _ c.self.view_is c.self.invariant.consistent c.requires.held c.args.group c.requires.there inside c.requires.alive _
     c.note.ensures.only.groups c.note.ensures.only.counts c.note.ensures.only.peaks _ (ap (λ (n : ℕ). slice_set c.self.inside.killed.items n true) value))
     c.note.ensures.only.pages (length-set c.self.inside.killed.items c.number.result true ∙ sized) _ (c.make_step.ensures.notes _ _ (search rules)) _ c.self.view_is).visit
 

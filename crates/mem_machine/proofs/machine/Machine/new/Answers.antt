@@ -4,8 +4,8 @@ use Rattle.mem_machine.proofs.machine.Machine.new.Goals as goal
 
 pub invariant_of-result : goal.invariant_of-result
 invariant_of-result g c =
-    let t = g.N.BootName.frames in
-    let sized : c.frames.result ≡ g.N.BootName.frames.frames = search rules in
+    let t = g.N.BootName.table in
+    let sized : c.frames.result ≡ g.N.BootName.table.frames = search rules in
     let first = first_is t _ c.frames.result sized c.in-Ok.ensures.frame_states c.in-Ok.ensures.charges c.in-Ok.ensures.nowhere c.in-Ok.ensures.killed refl c.in-Ok.ensures.notes c.requires.past in
     let kept = starts t _ first _ c.frames.result sized c.in-Ok.ensures.frames c.in-Ok.ensures.lists c.in-Ok.ensures.free c.in-Ok.ensures.areas in
     record {
@@ -17,9 +17,9 @@ invariant_of-result g c =
 
 pub returns-clause-first : goal.returns-clause-first
 returns-clause-first g c =
-    let sized : c.frames.result ≡ g.N.BootName.frames.frames = search rules in
-    first_is g.N.BootName.frames _ c.frames.result sized c.in-Ok.ensures.frame_states c.in-Ok.ensures.charges c.in-Ok.ensures.nowhere c.in-Ok.ensures.killed refl c.in-Ok.ensures.notes
+    let sized : c.frames.result ≡ g.N.BootName.table.frames = search rules in
+    first_is g.N.BootName.table _ c.frames.result sized c.in-Ok.ensures.frame_states c.in-Ok.ensures.charges c.in-Ok.ensures.nowhere c.in-Ok.ensures.killed refl c.in-Ok.ensures.notes
     c.requires.past
 
 pub returns-clause-rests : goal.returns-clause-rests
-returns-clause-rests g c = rests_first g.N.BootName.frames _ (returns-clause-first g c)
+returns-clause-rests g c = rests_first g.N.BootName.table _ (returns-clause-first g c)

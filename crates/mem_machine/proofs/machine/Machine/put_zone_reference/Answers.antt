@@ -13,23 +13,23 @@ use Rattle.mem_machine.proofs.ZoneSteps.{same_books}
 use Rattle.mem_machine.proofs.machine.Machine.put_zone_reference.Goals as goal
 
 pub put_held-requires-clause-legal : goal.put_held-requires-clause-legal
-put_held-requires-clause-legal g c = may_at _ _ c.args.tables.now.frames_are 0 refl c.self.inside.past (Put c.args.head)
-    (put_may g.N.BootName.frames (machine_of c.self.inside) _ c.self.view_is c.self.invariant.consistent c.args.head c.requires.frame c.requires.kept c.requires.held)
+put_held-requires-clause-legal g c = may_at _ _ c.args.tables.now.words_are 0 refl c.self.inside.past (Put c.args.head)
+    (put_may g.N.BootName.table (machine_of c.self.inside) _ c.self.view_is c.self.invariant.consistent c.args.head c.requires.frame c.requires.kept c.requires.held)
 
 pub overflow_cast-still : goal.overflow_cast-still
 overflow_cast-still g c =
-    let few = left_few g.N.BootName.frames (machine_of c.self.inside).run.past _ c.args.head _
-    (held_here g.N.BootName.frames (machine_of c.self.inside) _ c.self.view_is c.requires.held)
-    (made_at _ _ c.args.tables.now.frames_are 0 refl _ _ _ _ c.in-Left.ensures) in
+    let few = left_few g.N.BootName.table (machine_of c.self.inside).run.past _ c.args.head _
+    (held_here g.N.BootName.table (machine_of c.self.inside) _ c.self.view_is c.requires.held)
+    (made_at _ _ c.args.tables.now.words_are 0 refl _ _ _ _ c.in-Left.ensures) in
     let small = few.1 in
     omega (arith, small)
 
 pub invariant_of-self : goal.invariant_of-self
 invariant_of-self g c =
-    let t = g.N.BootName.frames in
+    let t = g.N.BootName.table in
     let m = machine_of c.self.inside in
     let held = held_here t m _ c.self.view_is c.requires.held in
-    let made = made_at _ _ c.args.tables.now.frames_are 0 refl _ _ _ _ c.in-Left.ensures in
+    let made = made_at _ _ c.args.tables.now.words_are 0 refl _ _ _ _ c.in-Left.ensures in
     let noted = notes_of_zone t m.run _ c.args.head _ c.number-at.ensures (λ x. Put x) (answer.Left c.in-Left.left) made (c.take.ensures _ _ (search rules)) in
     let all = left_all t m _ c.self.view_is c.self.invariant.consistent c.args.head _ c.requires.frame c.number-at.ensures c.requires.kept c.requires.held _ _
     c.leave_list.ensures.leaves c.leave_list.ensures.lists.stand c.leave_list.ensures.frames c.leave_list.ensures.lists.groups c.in-Left.left
@@ -43,10 +43,10 @@ invariant_of-self g c =
 
 pub returns-in-Left : goal.returns-in-Left
 returns-in-Left g c =
-    let t = g.N.BootName.frames in
+    let t = g.N.BootName.table in
     let m = machine_of c.self.inside in
     let held = held_here t m _ c.self.view_is c.requires.held in
-    let made = made_at _ _ c.args.tables.now.frames_are 0 refl _ _ _ _ c.in-Left.ensures in
+    let made = made_at _ _ c.args.tables.now.words_are 0 refl _ _ _ _ c.in-Left.ensures in
     let noted = notes_of_zone t m.run _ c.args.head _ c.number-at.ensures (λ x. Put x) (answer.Left c.in-Left.left) made (c.take.ensures _ _ (search rules)) in
     let all = left_all t m _ c.self.view_is c.self.invariant.consistent c.args.head _ c.requires.frame c.number-at.ensures c.requires.kept c.requires.held _ _
     c.leave_list.ensures.leaves c.leave_list.ensures.lists.stand c.leave_list.ensures.frames c.leave_list.ensures.lists.groups c.in-Left.left
@@ -55,7 +55,7 @@ returns-in-Left g c =
 
 pub free_unit-requires : goal.free_unit-requires
 free_unit-requires g c =
-    let t = g.N.BootName.frames in
+    let t = g.N.BootName.table in
     let m = machine_of c.self.inside in
     let head = read_head t m c.self.invariant.consistent c.args.head _ c.requires.frame c.number-at.ensures _ c.in-Head.unit c.index.ensures c.in-Head.is in
     record {
@@ -66,20 +66,20 @@ free_unit-requires g c =
 
 pub make_step-requires-clause-legal : goal.make_step-requires-clause-legal
 make_step-requires-clause-legal g c =
-    let t = g.N.BootName.frames in
+    let t = g.N.BootName.table in
     let m = machine_of c.self.inside in
     let head = read_head t m c.self.invariant.consistent c.args.head _ c.requires.frame c.number-at.ensures _ c.in-Head.unit c.index.ensures c.in-Head.is in
-    legal_step _ _ _ _ (return_may t m.run.past _ c.args.head _ c.number-at.ensures (Put c.args.head) answer.Last (made_at _ _ c.args.tables.now.frames_are 0 refl _ _ _ _ c.in-Last.ensures)
+    legal_step _ _ _ _ (return_may t m.run.past _ c.args.head _ c.number-at.ensures (Put c.args.head) answer.Last (made_at _ _ c.args.tables.now.words_are 0 refl _ _ _ _ c.in-Last.ensures)
     (put_returns t m _ c.self.view_is c.self.invariant.consistent c.args.head _ c.requires.frame c.number-at.ensures c.requires.kept c.requires.held c.in-Head.unit head)) tt (search rules)
 
 pub invariant_of-self-in-Last : goal.invariant_of-self-in-Last
 invariant_of-self-in-Last g c =
-    let t = g.N.BootName.frames in
+    let t = g.N.BootName.table in
     let m = machine_of c.self.inside in
     let head = read_head t m c.self.invariant.consistent c.args.head _ c.requires.frame c.number-at.ensures _ c.in-Head.unit c.index.ensures c.in-Head.is in
     let noted = notes_back t m.run _ c.args.head _ c.number-at.ensures (λ x. Put x) answer.Last
     (notes_of_zone t m.run _ c.args.head _ c.number-at.ensures (λ x. Put x) answer.Last
-    (made_at _ _ c.args.tables.now.frames_are 0 refl _ _ _ _ c.in-Last.ensures) (c.take-in-Last.ensures _ _ (search rules))) _ (c.make_step.ensures.notes _ _ (search rules)) in
+    (made_at _ _ c.args.tables.now.words_are 0 refl _ _ _ _ c.in-Last.ensures) (c.take-in-Last.ensures _ _ (search rules))) _ (c.make_step.ensures.notes _ _ (search rules)) in
     let all = returned_all t m _ c.self.view_is c.self.invariant.consistent c.args.head _ c.requires.frame c.number-at.ensures c.requires.kept c.requires.held _ _
     c.leave_list.ensures.leaves c.leave_list.ensures.lists.stand c.leave_list.ensures.frames c.leave_list.ensures.lists.groups c.in-Head.unit head _ _ _ _ _ _
     c.self.invariant.free c.free_unit.ensures.frame_states c.free_unit.ensures.frames c.free_unit.ensures.areas c.free_unit.ensures.charges
@@ -94,12 +94,12 @@ invariant_of-self-in-Last g c =
 
 pub returns-in-Head : goal.returns-in-Head
 returns-in-Head g c =
-    let t = g.N.BootName.frames in
+    let t = g.N.BootName.table in
     let m = machine_of c.self.inside in
     let head = read_head t m c.self.invariant.consistent c.args.head _ c.requires.frame c.number-at.ensures _ c.in-Head.unit c.index.ensures c.in-Head.is in
     let noted = notes_back t m.run _ c.args.head _ c.number-at.ensures (λ x. Put x) answer.Last
     (notes_of_zone t m.run _ c.args.head _ c.number-at.ensures (λ x. Put x) answer.Last
-    (made_at _ _ c.args.tables.now.frames_are 0 refl _ _ _ _ c.in-Last.ensures) (c.take-in-Last.ensures _ _ (search rules))) _ (c.make_step.ensures.notes _ _ (search rules)) in
+    (made_at _ _ c.args.tables.now.words_are 0 refl _ _ _ _ c.in-Last.ensures) (c.take-in-Last.ensures _ _ (search rules))) _ (c.make_step.ensures.notes _ _ (search rules)) in
     let all = returned_all t m _ c.self.view_is c.self.invariant.consistent c.args.head _ c.requires.frame c.number-at.ensures c.requires.kept c.requires.held _ _
     c.leave_list.ensures.leaves c.leave_list.ensures.lists.stand c.leave_list.ensures.frames c.leave_list.ensures.lists.groups c.in-Head.unit head _ _ _ _ _ _
     c.self.invariant.free c.free_unit.ensures.frame_states c.free_unit.ensures.frames c.free_unit.ensures.areas c.free_unit.ensures.charges

@@ -1,6 +1,6 @@
 use Rattle.std.proofs.Common.{◌∙◌, sym, rules}
 use Rattle.mem_machine.specs.Kept.{machine_of}
-use Rattle.mem_machine.proofs.Back.{back_may_pass, may_collect, may_return, not_other, read_head, return_all, returned_notes}
+use Rattle.mem_machine.proofs.Back.{back_may_pass, holder_then, may_collect, may_return, not_other, read_head, return_all, returned_notes}
 use Rattle.mem_machine.proofs.Freeing.{unit_charged, unit_in_use}
 use Rattle.mem_machine.proofs.Made.{visits_here}
 use Rattle.mem_machine.proofs.Noted.{legal_step}
@@ -8,7 +8,7 @@ use Rattle.mem_machine.proofs.machine.Machine.return_one.Goals as goal
 
 pub pass_back_unit-requires : goal.pass_back_unit-requires
 pass_back_unit-requires g c =
-    let t = g.N.BootName.frames in
+    let t = g.N.BootName.table in
     let m = machine_of c.self.inside in
     let visit = visits_here t m _ c.self.view_is c.args.cpu.now c.requires in
     record {
@@ -17,15 +17,20 @@ pass_back_unit-requires g c =
       legal = back_may_pass t m _ c.self.view_is c.args.cpu.now c.requires c.self.invariant.consistent;
     }
 
-pub collect-requires-clause-legal : goal.collect-requires-clause-legal
-collect-requires-clause-legal g c =
-    may_collect g.N.BootName.frames (machine_of c.self.inside) _ c.self.view_is c.args.cpu.now c.requires c.self.invariant.consistent c.in-Some.frame _
-    c.in-Some.ensures.answer.1 _ c.number-cpu_number.ensures.number _ c.number-at.ensures (record { past = c.pass_back_unit.new.held; watch = c.take.new.self })
-    c.in-Some.ensures.run (c.take.ensures _ _ (search rules)) _ c.args.tables.now.frames_are
+pub collect_passed-requires : goal.collect_passed-requires
+collect_passed-requires g c =
+    let t = g.N.BootName.table in
+    let m = machine_of c.self.inside in
+    let ok = c.self.invariant.consistent in
+    record {
+      held = c.in-Some.ensures.run.held;
+      holder = holder_then t m _ c.self.view_is c.args.cpu.now c.requires ok c.in-Some.frame _ c.in-Some.ensures.answer.1 _ c.number-cpu_number.ensures.number _ c.in-Some.ensures.run;
+      legal = may_collect t m _ c.self.view_is c.args.cpu.now c.requires ok c.in-Some.frame _ c.in-Some.ensures.answer.1 _ c.number-cpu_number.ensures.number _ c.in-Some.ensures.run;
+    }
 
 pub free_unit-requires : goal.free_unit-requires
 free_unit-requires g c =
-    let t = g.N.BootName.frames in
+    let t = g.N.BootName.table in
     let m = machine_of c.self.inside in
     let ok = c.self.invariant.consistent in
     let heads = read_head t m _ c.self.view_is c.args.cpu.now c.requires ok c.in-Some.frame _ c.in-Some.ensures.answer.1 _ c.number-at.ensures _ c.index.ensures
@@ -38,44 +43,44 @@ free_unit-requires g c =
 
 pub make_step-requires-clause-legal : goal.make_step-requires-clause-legal
 make_step-requires-clause-legal g c =
-    legal_step _ _ _ _ (may_return g.N.BootName.frames (machine_of c.self.inside) _ c.self.view_is c.args.cpu.now c.requires c.self.invariant.consistent c.in-Some.frame _
-    c.in-Some.ensures.answer.1 _ c.number-cpu_number.ensures.number _ c.number-at.ensures (record { past = c.pass_back_unit.new.held; watch = c.take.new.self })
-    c.in-Some.ensures.run (c.take.ensures _ _ (search rules)) _ c.args.tables.now.frames_are (record { past = c.collect.new.held; watch = c.take-2.new.self })
-    c.collect.ensures (c.take-2.ensures _ _ (search rules))) tt (search rules)
+    let e = c.collect_passed.ensures in
+    legal_step _ _ _ _ (may_return g.N.BootName.table (machine_of c.self.inside) _ c.self.view_is c.args.cpu.now c.requires c.self.invariant.consistent c.in-Some.frame _
+    c.in-Some.ensures.answer.1 _ c.number-cpu_number.ensures.number _ c.in-Some.ensures.run (record { past = c.collect_passed.new.past; watch = c.collect_passed.new.watch })
+    e.collected e.watched _ c.number-at.ensures) tt (search rules)
 
 pub invariant_of-self-2 : goal.invariant_of-self-2
 invariant_of-self-2 g c =
-    let t = g.N.BootName.frames in
+    let t = g.N.BootName.table in
     let m = machine_of c.self.inside in
     let ok = c.self.invariant.consistent in
     let u = c.free_unit.ensures in
     let heads = read_head t m _ c.self.view_is c.args.cpu.now c.requires ok c.in-Some.frame _ c.in-Some.ensures.answer.1 _ c.number-at.ensures _ c.index.ensures
     ∙ c.in-Head.is in
+    let e = c.collect_passed.ensures in
     let notes = returned_notes t m _ c.self.view_is c.args.cpu.now c.requires ok c.in-Some.frame _
-    c.in-Some.ensures.answer.1 _ c.number-cpu_number.ensures.number _ c.number-at.ensures (record { past = c.pass_back_unit.new.held; watch = c.take.new.self })
-    c.in-Some.ensures.run (c.take.ensures _ _ (search rules)) _ c.args.tables.now.frames_are (record { past = c.collect.new.held; watch = c.take-2.new.self })
-    c.collect.ensures (c.take-2.ensures _ _ (search rules)) _ (c.make_step.ensures.notes _ _ (search rules)) in
+    c.in-Some.ensures.answer.1 _ c.number-cpu_number.ensures.number _ c.in-Some.ensures.run (record { past = c.collect_passed.new.past; watch = c.collect_passed.new.watch })
+    e.collected e.watched _ c.number-at.ensures _ (c.make_step.ensures.notes _ _ (search rules)) in
     let all = return_all t m _ c.self.view_is c.args.cpu.now c.requires ok c.in-Some.frame _ c.in-Some.ensures.answer _ _ _ _ c.self.invariant.free
     c.self.invariant.sums c.self.invariant.owners _ c.number-at.ensures _ heads _ u.frame_states _ u.frames u.areas _ u.charges _ c.with_last_put-self-inside.ensures _ notes in
     record { consistent = all.consistent; free = all.free_is; sums = all.sums_are; owners = all.owners_are }
 
 pub returns : goal.returns
 returns g c =
-    let t = g.N.BootName.frames in
+    let t = g.N.BootName.table in
     let m = machine_of c.self.inside in
     let ok = c.self.invariant.consistent in
     let u = c.free_unit.ensures in
     let heads = read_head t m _ c.self.view_is c.args.cpu.now c.requires ok c.in-Some.frame _ c.in-Some.ensures.answer.1 _ c.number-at.ensures _ c.index.ensures
     ∙ c.in-Head.is in
+    let e = c.collect_passed.ensures in
     let notes = returned_notes t m _ c.self.view_is c.args.cpu.now c.requires ok c.in-Some.frame _
-    c.in-Some.ensures.answer.1 _ c.number-cpu_number.ensures.number _ c.number-at.ensures (record { past = c.pass_back_unit.new.held; watch = c.take.new.self })
-    c.in-Some.ensures.run (c.take.ensures _ _ (search rules)) _ c.args.tables.now.frames_are (record { past = c.collect.new.held; watch = c.take-2.new.self })
-    c.collect.ensures (c.take-2.ensures _ _ (search rules)) _ (c.make_step.ensures.notes _ _ (search rules)) in
+    c.in-Some.ensures.answer.1 _ c.number-cpu_number.ensures.number _ c.in-Some.ensures.run (record { past = c.collect_passed.new.past; watch = c.collect_passed.new.watch })
+    e.collected e.watched _ c.number-at.ensures _ (c.make_step.ensures.notes _ _ (search rules)) in
     let all = return_all t m _ c.self.view_is c.args.cpu.now c.requires ok c.in-Some.frame _ c.in-Some.ensures.answer _ _ _ _ c.self.invariant.free
     c.self.invariant.sums c.self.invariant.owners _ c.number-at.ensures _ heads _ u.frame_states _ u.frames u.areas _ u.charges _ c.with_last_put-self-inside.ensures _ notes in
     record { returns = all.does; visit = all.visit; steps = all.makes }
 
 pub unreachable-requires : goal.unreachable-requires
 unreachable-requires g c =
-    not_other g.N.BootName.frames (machine_of c.self.inside) _ c.self.view_is c.args.cpu.now c.requires c.self.invariant.consistent c.in-Some.frame _
+    not_other g.N.BootName.table (machine_of c.self.inside) _ c.self.view_is c.args.cpu.now c.requires c.self.invariant.consistent c.in-Some.frame _
     c.in-Some.ensures.answer.1 _ c.number-at.ensures _ c.index.ensures c.in_default-index.not-Head

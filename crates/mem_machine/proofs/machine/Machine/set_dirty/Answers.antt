@@ -6,7 +6,7 @@ unreachable-requires g c = has_home _ _ c.self.view_is c.args.head _ c.number-at
 
 pub invariant_of-self : goal.invariant_of-self
 invariant_of-self g c = record {
-  consistent = (dirty_all g.N.BootName.frames _ _ c.self.view_is c.self.invariant.consistent c.args.head _ c.requires.frame c.number-at.ensures c.in-Some.home
+  consistent = (dirty_all g.N.BootName.table _ _ c.self.view_is c.self.invariant.consistent c.args.head _ c.requires.frame c.number-at.ensures c.in-Some.home
       c.in-Some.ensures _ c.index.ensures _ c.args.is_dirty c.set_dirty.ensures.linked c.set_dirty.ensures.entries c.set_dirty.ensures.others
       c.others_stay_linked.ensures
       c.one_of_all_changes.ensures).consistent;
@@ -17,7 +17,7 @@ invariant_of-self g c = record {
 
 pub returns : goal.returns
 returns g c =
-    let all = dirty_all g.N.BootName.frames _ _ c.self.view_is c.self.invariant.consistent c.args.head _ c.requires.frame c.number-at.ensures
+    let all = dirty_all g.N.BootName.table _ _ c.self.view_is c.self.invariant.consistent c.args.head _ c.requires.frame c.number-at.ensures
     c.in-Some.home
     c.in-Some.ensures _ c.index.ensures _ c.args.is_dirty c.set_dirty.ensures.linked c.set_dirty.ensures.entries c.set_dirty.ensures.others
     c.others_stay_linked.ensures

@@ -8,32 +8,32 @@ use Rattle.mem_machine.proofs.machine.Machine.set_oom_group.Goals as goal
 
 pub make_step-requires-clause-held : goal.make_step-requires-clause-held
 make_step-requires-clause-held g c =
-    held_here g.N.BootName.frames (machine_of c.self.inside) _ c.self.view_is c.requires.held
+    held_here g.N.BootName.table (machine_of c.self.inside) _ c.self.view_is c.requires.held
 
 pub make_step-requires-clause-legal : goal.make_step-requires-clause-legal
 make_step-requires-clause-legal g c =
-    legal_step _ _ _ _ (sets_oom_group g.N.BootName.frames (machine_of c.self.inside) _ c.self.view_is c.self.invariant.consistent c.requires.held c.args.group c.requires.there c.args.oom_group
+    legal_step _ _ _ _ (sets_oom_group g.N.BootName.table (machine_of c.self.inside) _ c.self.view_is c.self.invariant.consistent c.requires.held c.args.group c.requires.there c.args.oom_group
     c.requires.below_root _ c.set_oom_group.ensures.flagged).step tt (search rules)
 
 pub invariant_of-self : goal.invariant_of-self
 invariant_of-self g c =
-    let all = grouped g.N.BootName.frames (machine_of c.self.inside) c.self.invariant.consistent (held_here g.N.BootName.frames (machine_of c.self.inside) _ c.self.view_is c.requires.held) _ _ _
-    (sets_oom_group g.N.BootName.frames (machine_of c.self.inside) _ c.self.view_is c.self.invariant.consistent c.requires.held c.args.group c.requires.there c.args.oom_group
+    let all = grouped g.N.BootName.table (machine_of c.self.inside) c.self.invariant.consistent (held_here g.N.BootName.table (machine_of c.self.inside) _ c.self.view_is c.requires.held) _ _ _
+    (sets_oom_group g.N.BootName.table (machine_of c.self.inside) _ c.self.view_is c.self.invariant.consistent c.requires.held c.args.group c.requires.there c.args.oom_group
     c.requires.below_root _ c.set_oom_group.ensures.flagged)
     c.set_oom_group.ensures.pages c.self.invariant.consistent.sizes.killed _ (c.make_step.ensures.notes _ _ (search rules)) _ refl in
     record { consistent = all.consistent; free = c.self.invariant.free; sums = all.sums _ c.self.invariant.sums; owners = all.owners _ c.self.invariant.owners }
 
 pub returns-clause-steps : goal.returns-clause-steps
 returns-clause-steps g c =
-    (grouped g.N.BootName.frames (machine_of c.self.inside) c.self.invariant.consistent (held_here g.N.BootName.frames (machine_of c.self.inside) _ c.self.view_is c.requires.held) _ _ _
-    (sets_oom_group g.N.BootName.frames (machine_of c.self.inside) _ c.self.view_is c.self.invariant.consistent c.requires.held c.args.group c.requires.there c.args.oom_group
+    (grouped g.N.BootName.table (machine_of c.self.inside) c.self.invariant.consistent (held_here g.N.BootName.table (machine_of c.self.inside) _ c.self.view_is c.requires.held) _ _ _
+    (sets_oom_group g.N.BootName.table (machine_of c.self.inside) _ c.self.view_is c.self.invariant.consistent c.requires.held c.args.group c.requires.there c.args.oom_group
     c.requires.below_root _ c.set_oom_group.ensures.flagged)
     c.set_oom_group.ensures.pages c.self.invariant.consistent.sizes.killed _ (c.make_step.ensures.notes _ _ (search rules)) _ c.self.view_is).steps
 
 pub returns-clause-visit : goal.returns-clause-visit
 returns-clause-visit g c =
-    (grouped g.N.BootName.frames (machine_of c.self.inside) c.self.invariant.consistent (held_here g.N.BootName.frames (machine_of c.self.inside) _ c.self.view_is c.requires.held) _ _ _
-    (sets_oom_group g.N.BootName.frames (machine_of c.self.inside) _ c.self.view_is c.self.invariant.consistent c.requires.held c.args.group c.requires.there c.args.oom_group
+    (grouped g.N.BootName.table (machine_of c.self.inside) c.self.invariant.consistent (held_here g.N.BootName.table (machine_of c.self.inside) _ c.self.view_is c.requires.held) _ _ _
+    (sets_oom_group g.N.BootName.table (machine_of c.self.inside) _ c.self.view_is c.self.invariant.consistent c.requires.held c.args.group c.requires.there c.args.oom_group
     c.requires.below_root _ c.set_oom_group.ensures.flagged)
     c.set_oom_group.ensures.pages c.self.invariant.consistent.sizes.killed _ (c.make_step.ensures.notes _ _ (search rules)) _ c.self.view_is).visit
 

@@ -7,7 +7,7 @@ use Rattle.mem_machine.proofs.machine.Machine.set_settings.Goals as goal
 
 pub invariant_of-self : goal.invariant_of-self
 invariant_of-self g c = record {
-  consistent = settings_consistent g.N.BootName.frames (machine_of c.self.inside) _ c.args.group c.args.settings c.set_settings.ensures c.self.invariant.consistent;
+  consistent = settings_consistent g.N.BootName.table (machine_of c.self.inside) _ c.args.group c.args.settings c.set_settings.ensures c.self.invariant.consistent;
   free = c.self.invariant.free;
   sums = c.self.invariant.sums;
   owners = c.self.invariant.owners;
@@ -19,8 +19,8 @@ returns-clause-machine g c = λ i. record (c.self.view_is i) {
 }
 
 pub returns-clause-visit : goal.returns-clause-visit
-returns-clause-visit g c = λ cpu visit. visit_same g.N.BootName.frames c.args.self.now _ cpu (ap (λ (m : KnownMachine). m.run) (returns-clause-machine g c)) visit
+returns-clause-visit g c = λ cpu visit. visit_same g.N.BootName.table c.args.self.now _ cpu (ap (λ (m : KnownMachine). m.run) (returns-clause-machine g c)) visit
 
 pub returns-clause-steps : goal.returns-clause-steps
-returns-clause-steps g c = subst (Makes g.N.BootName.frames c.args.self.now []) (sym (returns-clause-machine g c))
-    (settings_make g.N.BootName.frames c.args.self.now c.args.group c.args.settings)
+returns-clause-steps g c = subst (Makes g.N.BootName.table c.args.self.now []) (sym (returns-clause-machine g c))
+    (settings_make g.N.BootName.table c.args.self.now c.args.group c.args.settings)

@@ -6,4 +6,4 @@ abbrev pub decreases-loop-frame : goal.decreases-loop-frame
 decreases-loop-frame g l = length l.cpu.back
 
 abbrev pub invariant-loop-frame : goal.invariant-loop-frame
-invariant-loop-frame g l = BackSoFar g.N.BootName.frames l.fn.self l.fn.cpu l.self l.cpu
+invariant-loop-frame g l = BackSoFar g.N.BootName.table l.fn.self l.fn.cpu l.self l.cpu

@@ -23,14 +23,14 @@ loop-row-preserved g c =
     elim c.if-is_at_or_below.branch [
       | then-is_at_or_below w ↦
           let owned = subst (λ (x : KnownMachine). (p : ℕ) → p < 64 → (bit_at w.stocks_of-stocks.result p ≡ 1)
-          ↔ (p < g.N.BootName.frames.cpus) × (stock_group g.N.BootName.frames x (p + 1) ≡ Some c.row-item.result.number)) c.self.view_is
-          (stocks_owned g.N.BootName.frames.cpus _ _ c.self.invariant.owners c.row-item.result.number w.stocks_of-stocks.result w.stocks_of-stocks.ensures) in
-          subst (FoundSoFar (OwnsStock g.N.BootName.frames c.args.self.now) c.args.self.now.ledger.groups c.args.group c.groups-row-items.result.now (c.loop-row.row-index + 1)) (sym w.stocks-is)
-          (found_more (OwnsStock g.N.BootName.frames c.args.self.now) c.args.self.now.ledger.groups c.args.group c.groups-row-items.result.now c.loop-row.row-index c.loop-row.stocks c.loop-row.invariant
+          ↔ (p < g.N.BootName.table.cpus) × (stock_group g.N.BootName.table x (p + 1) ≡ Some c.row-item.result.number)) c.self.view_is
+          (stocks_owned g.N.BootName.table.cpus _ _ c.self.invariant.owners c.row-item.result.number w.stocks_of-stocks.result w.stocks_of-stocks.ensures) in
+          subst (FoundSoFar (OwnsStock g.N.BootName.table c.args.self.now) c.args.self.now.ledger.groups c.args.group c.groups-row-items.result.now (c.loop-row.row-index + 1)) (sym w.stocks-is)
+          (found_more (OwnsStock g.N.BootName.table c.args.self.now) c.args.self.now.ledger.groups c.args.group c.groups-row-items.result.now c.loop-row.row-index c.loop-row.stocks c.loop-row.invariant
           c.row-item.result c.loop-row-test.true c.row-item.is w.stocks_of-stocks.result (test ∙ w.if-is_at_or_below.true) owned)
       | else-is_at_or_below w ↦
-          subst (FoundSoFar (OwnsStock g.N.BootName.frames c.args.self.now) c.args.self.now.ledger.groups c.args.group c.groups-row-items.result.now (c.loop-row.row-index + 1)) (sym w.stocks-is)
-          (found_not (OwnsStock g.N.BootName.frames c.args.self.now) c.args.self.now.ledger.groups c.args.group c.groups-row-items.result.now c.loop-row.row-index c.loop-row.stocks c.loop-row.invariant
+          subst (FoundSoFar (OwnsStock g.N.BootName.table c.args.self.now) c.args.self.now.ledger.groups c.args.group c.groups-row-items.result.now (c.loop-row.row-index + 1)) (sym w.stocks-is)
+          (found_not (OwnsStock g.N.BootName.table c.args.self.now) c.args.self.now.ledger.groups c.args.group c.groups-row-items.result.now c.loop-row.row-index c.loop-row.stocks c.loop-row.invariant
           c.row-item.result c.loop-row-test.true c.row-item.is (test ∙ w.if-is_at_or_below.false))
     ]
 
@@ -38,6 +38,6 @@ pub returns : goal.returns
 returns g c =
     let groups : c.groups-row-items.result.now ≡ c.args.self.now.ledger.groups = c.groups-row-items.ensures.groups ∙ c.tree-tree.ensures.tree
     ∙ ap (λ (m : KnownMachine). m.ledger.groups) c.self.view_is in
-    stocks_found g.N.BootName.frames c.args.self.now c.args.group c.loop-row.row-index c.loop-row.stocks
-    (subst (λ (rows : List Group). FoundSoFar (OwnsStock g.N.BootName.frames c.args.self.now) c.args.self.now.ledger.groups c.args.group rows c.loop-row.row-index c.loop-row.stocks) groups c.loop-row.invariant)
+    stocks_found g.N.BootName.table c.args.self.now c.args.group c.loop-row.row-index c.loop-row.stocks
+    (subst (λ (rows : List Group). FoundSoFar (OwnsStock g.N.BootName.table c.args.self.now) c.args.self.now.ledger.groups c.args.group rows c.loop-row.row-index c.loop-row.stocks) groups c.loop-row.invariant)
     (subst (λ (rows : List Group). length rows ≤ c.loop-row.row-index) groups c.loop-row-test.false)

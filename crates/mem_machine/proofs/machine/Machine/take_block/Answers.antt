@@ -2,12 +2,10 @@ use Rattle.std.proofs.Common.{ℕ, ◌≤◌, ◌<◌, ◌^◌, ap, refl, sym, s
 use Rattle.group_tree.specs.{has_group, IsLowestOver}
 use Rattle.group_charge.specs.Charges.{current_of}
 use Rattle.zone_blocks.specs.Zone.{BuddyZone}
-use Rattle.boot_words.specs.Pasts.{MakesStep}
-use Rattle.step_rules.specs.declared.step.Action.TheVariants.{Grant, Unfreeze}
-use Rattle.step_rules.specs.declared.step.Answer.TheVariants.{Done, Over}
-use Rattle.mem_machine.specs.{machine_of, KnownMachine, MayTake, Notes, over_steps, taken_steps, unplaced_steps}
-use Rattle.mem_machine.specs.Steps.{zone_makes}
-use Rattle.mem_machine.proofs.AtTable.{made_at, may_at}
+use Rattle.step_rules.specs.declared.step.Action.TheVariants.{Grant}
+use Rattle.step_rules.specs.declared.step.Answer.TheVariants.{Over}
+use Rattle.step_rules.specs.After.{zone_makes}
+use Rattle.mem_machine.specs.{machine_of, KnownMachine, Records, over_steps, taken_steps, unplaced_steps}
 use Rattle.mem_machine.proofs.GroupSteps.{may_group}
 use Rattle.mem_machine.proofs.Made.{held_here}
 use Rattle.mem_machine.proofs.Noted.{legal_step}
@@ -20,7 +18,7 @@ use Rattle.mem_machine.proofs.machine.Machine.take_block.Goals as goal
 
 pub make_step-requires-clause-legal : goal.make_step-requires-clause-legal
 make_step-requires-clause-legal g c =
-    let t = g.N.BootName.frames in
+    let t = g.N.BootName.table in
     let m = machine_of c.self.inside in
     legal_step _ _ _ _ (may_group t m (zone_makes (Grant c.args.group c.frames-pages.result) (Over c.in-Err.over.group)) c.self.inside.charges c.self.inside.killed.items
     (refused_step t m _ c.self.view_is c.self.invariant.consistent c.prove_charges.ensures.legal c.requires.visit.held c.args.group _ c.frames-pages.result
@@ -28,7 +26,7 @@ make_step-requires-clause-legal g c =
 
 pub invariant_of-self : goal.invariant_of-self
 invariant_of-self g c =
-    let t = g.N.BootName.frames in
+    let t = g.N.BootName.table in
     let m = machine_of c.self.inside in
     let all = refused_all t m _ c.self.view_is c.self.invariant.consistent c.prove_charges.ensures.legal c.requires.visit.held c.args.group _ c.frames-pages.result
     c.in-Err.over.group c.requires.charges c.in-Err.ensures.over _ c.in-Err.ensures.unchanged _ (c.make_step.ensures.notes _ _ (search rules)) in
@@ -36,18 +34,18 @@ invariant_of-self g c =
 
 pub returns-in-Err-clause-steps : goal.returns-in-Err-clause-steps
 returns-in-Err-clause-steps g c =
-    let t = g.N.BootName.frames in
+    let t = g.N.BootName.table in
     let m = machine_of c.self.inside in
     (refused_all t m _ c.self.view_is c.self.invariant.consistent c.prove_charges.ensures.legal c.requires.visit.held c.args.group _ (2 ^ c.args.order)
     c.in-Err.over.group c.requires.charges
     (subst (λ (n : ℕ). IsLowestOver m.ledger.groups (current_of m.ledger) c.args.group n c.in-Err.over.group) c.frames-pages.ensures.frames c.in-Err.ensures.over) _
     c.in-Err.ensures.unchanged _
-    (subst (λ (n : ℕ). Notes t m.run (over_steps c.args.group n c.in-Err.over.group) (record { past = c.make_step.new.past; watch = c.make_step.new.watch }))
+    (subst (λ (n : ℕ). Records t m.run (over_steps c.args.group n c.in-Err.over.group) (record { past = c.make_step.new.past; watch = c.make_step.new.watch }))
     c.frames-pages.ensures.frames (c.make_step.ensures.notes _ _ (search rules)))).steps
 
 pub returns-in-Err-clause-visit : goal.returns-in-Err-clause-visit
 returns-in-Err-clause-visit g c =
-    let t = g.N.BootName.frames in
+    let t = g.N.BootName.table in
     let m = machine_of c.self.inside in
     (refused_all t m _ c.self.view_is c.self.invariant.consistent c.prove_charges.ensures.legal c.requires.visit.held c.args.group _ c.frames-pages.result
     c.in-Err.over.group c.requires.charges c.in-Err.ensures.over _ c.in-Err.ensures.unchanged _ (c.make_step.ensures.notes _ _ (search rules))).visit _ c.requires.visit
@@ -56,24 +54,24 @@ returns-in-Err-clause-visit g c =
 
 pub make_step-requires-2-clause-legal : goal.make_step-requires-2-clause-legal
 make_step-requires-2-clause-legal g c =
-    legal_step _ _ _ _ (granted_may g.N.BootName.frames (machine_of c.self.inside) _ c.self.view_is c.self.invariant.consistent c.prove_charges.ensures.legal c.requires.visit.held c.args.group
+    legal_step _ _ _ _ (granted_may g.N.BootName.table (machine_of c.self.inside) _ c.self.view_is c.self.invariant.consistent c.prove_charges.ensures.legal c.requires.visit.held c.args.group
     c.args.order c.frames-pages.result c.requires.charges (c.in_default.ensures.granted.0 refl)).0 tt (search rules)
 
 pub make_step-requires-in_default-take-clause-legal : goal.make_step-requires-in_default-take-clause-legal
 make_step-requires-in_default-take-clause-legal g c =
-    let may = unplaced_may g.N.BootName.frames (machine_of c.self.inside) _ c.self.view_is c.self.invariant.consistent c.prove_charges.ensures.legal c.requires.visit.held c.args.group
+    let may = unplaced_may g.N.BootName.table (machine_of c.self.inside) _ c.self.view_is c.self.invariant.consistent c.prove_charges.ensures.legal c.requires.visit.held c.args.group
     c.args.order _ c.frames-pages.ensures.frames c.requires.charges (c.in_default.ensures.granted.0 refl) c.in_default-take.ensures.taken in
     legal_step _ _ _ _ (may.1 _ (c.make_step-2.ensures.run _ _ (search rules))).0 tt (search rules)
 
 pub make_step-requires-in_default-take-2-clause-legal : goal.make_step-requires-in_default-take-2-clause-legal
 make_step-requires-in_default-take-2-clause-legal g c =
-    let may = unplaced_may g.N.BootName.frames (machine_of c.self.inside) _ c.self.view_is c.self.invariant.consistent c.prove_charges.ensures.legal c.requires.visit.held c.args.group
+    let may = unplaced_may g.N.BootName.table (machine_of c.self.inside) _ c.self.view_is c.self.invariant.consistent c.prove_charges.ensures.legal c.requires.visit.held c.args.group
     c.args.order _ c.frames-pages.ensures.frames c.requires.charges (c.in_default.ensures.granted.0 refl) c.in_default-take.ensures.taken in
     legal_step _ _ _ _ ((may.1 _ (c.make_step-2.ensures.run _ _ (search rules))).1 _ (c.make_step-in_default-take.ensures.run _ _ (search rules))).0 tt (search rules)
 
 pub invariant_of-self-in_default-take : goal.invariant_of-self-in_default-take
 invariant_of-self-in_default-take g c =
-    let t = g.N.BootName.frames in
+    let t = g.N.BootName.table in
     let m = machine_of c.self.inside in
     let noted = unplaced_notes t _ _ _ _ c.args.group c.args.order _ c.frames-pages.ensures.frames (c.make_step-2.ensures.notes _ _ (search rules)) (c.make_step-in_default-take.ensures.notes _ _ (search rules)) (c.make_step-in_default-take-2.ensures.notes _ _ (search rules)) in
     let held = held_here t m _ c.self.view_is c.requires.visit.held in
@@ -88,7 +86,7 @@ invariant_of-self-in_default-take g c =
 
 pub returns-in_default-take : goal.returns-in_default-take
 returns-in_default-take g c =
-    let t = g.N.BootName.frames in
+    let t = g.N.BootName.table in
     let m = machine_of c.self.inside in
     let all = none_all t m _ c.self.view_is c.self.invariant.consistent c.prove_charges.ensures.legal c.requires.visit.held c.args.group c.args.order _
     c.frames-pages.ensures.frames c.requires.charges (c.in_default.ensures.granted.0 refl) _ _ c.in_default.ensures.charged c.in_default.ensures.pages
@@ -100,7 +98,7 @@ returns-in_default-take g c =
 
 pub unreachable-requires : goal.unreachable-requires
 unreachable-requires g c =
-    let past : g.N.BootName.frames.frames ≤ c.in-Some.block.at = search rules in
+    let past : g.N.BootName.table.frames ≤ c.in-Some.block.at = search rules in
     let inside = head_inside _ _ c.self.invariant.consistent.areas _ _ c.self.invariant.free _ c.in-Some.block c.in-Some.ensures.taken c.in-Some.ensures.frames in
     let sized = c.self.invariant.consistent.sizes.frame_states in
     omega (arith, past, inside, sized)
@@ -111,46 +109,35 @@ place_unit-requires g c =
 
 pub join_list-requires-clause-away : goal.join_list-requires-clause-away
 join_list-requires-clause-away g c =
-    was_away g.N.BootName.frames (machine_of c.self.inside) c.self.invariant.consistent _ _ c.in-Some.block c.self.invariant.free _ c.in-Some.ensures.taken
-    c.in-Some.ensures.frames c.in-Some-frame.head _ c.in-Some-frame.ensures.0 c.number-frame.ensures
+    was_away g.N.BootName.table (machine_of c.self.inside) c.self.invariant.consistent _ _ c.in-Some.block c.self.invariant.free _ c.in-Some.ensures.taken
+    c.in-Some.ensures.frames
 
 pub make_step-requires-3-clause-legal : goal.make_step-requires-3-clause-legal
 make_step-requires-3-clause-legal g c =
-    let may = taken_may g.N.BootName.frames (machine_of c.self.inside) _ c.self.view_is c.self.invariant.consistent c.prove_charges.ensures.legal c.requires.visit.held c.args.group
+    let may = taken_may g.N.BootName.table (machine_of c.self.inside) _ c.self.view_is c.self.invariant.consistent c.prove_charges.ensures.legal c.requires.visit.held c.args.group
     c.args.order _ c.frames-pages.ensures.frames c.requires.charges (c.in_default.ensures.granted.0 refl) _ _ c.in-Some.block c.self.invariant.free
-    c.in-Some.ensures.taken c.in-Some.ensures.frames c.in-Some-frame.head _ c.in-Some-frame.ensures.0 c.number-frame.ensures in
+    c.in-Some.ensures.taken c.in-Some.ensures.frames c.in-Some-frame.head c.in-Some-frame.ensures.0 in
     legal_step _ _ _ _ (may.1 _ (c.make_step-2.ensures.run _ _ (search rules))).0 tt (search rules)
 
-pub unfreeze-requires-clause-legal : goal.unfreeze-requires-clause-legal
-unfreeze-requires-clause-legal g c =
-    let may = taken_may g.N.BootName.frames (machine_of c.self.inside) _ c.self.view_is c.self.invariant.consistent c.prove_charges.ensures.legal c.requires.visit.held c.args.group
+pub publish-requires-clause-legal : goal.publish-requires-clause-legal
+publish-requires-clause-legal g c =
+    let may = taken_may g.N.BootName.table (machine_of c.self.inside) _ c.self.view_is c.self.invariant.consistent c.prove_charges.ensures.legal c.requires.visit.held c.args.group
     c.args.order _ c.frames-pages.ensures.frames c.requires.charges (c.in_default.ensures.granted.0 refl) _ _ c.in-Some.block c.self.invariant.free
-    c.in-Some.ensures.taken c.in-Some.ensures.frames c.in-Some-frame.head _ c.in-Some-frame.ensures.0 c.number-frame.ensures in
-    may_at _ _ c.args.tables.now.frames_are 0 refl c.make_step-3.new.past (Unfreeze c.in-Some-frame.head 1)
-    (subst (λ (x : ℕ). MayTake g.N.BootName.frames c.make_step-3.new.past (zone_makes (Unfreeze x 1) Done)) c.number-frame.ensures
-    ((may.1 _ (c.make_step-2.ensures.run _ _ (search rules))).1 _ (c.make_step-3.ensures.run _ _ (search rules))).0).legal
-
-pub make_step-requires-4-clause-legal : goal.make_step-requires-4-clause-legal
-make_step-requires-4-clause-legal g c =
-    let may = taken_may g.N.BootName.frames (machine_of c.self.inside) _ c.self.view_is c.self.invariant.consistent c.prove_charges.ensures.legal c.requires.visit.held c.args.group
-    c.args.order _ c.frames-pages.ensures.frames c.requires.charges (c.in_default.ensures.granted.0 refl) _ _ c.in-Some.block c.self.invariant.free
-    c.in-Some.ensures.taken c.in-Some.ensures.frames c.in-Some-frame.head _ c.in-Some-frame.ensures.0 c.number-frame.ensures in
-    legal_step _ _ _ _ (((may.1 _ (c.make_step-2.ensures.run _ _ (search rules))).1 _ (c.make_step-3.ensures.run _ _ (search rules))).1 _
-    (subst (λ (x : ℕ). MakesStep g.N.BootName.frames c.make_step-3.new.past 0 (Unfreeze x 1) Done c.unfreeze.new.held) (sym c.number-frame.ensures)
-    (made_at _ _ c.args.tables.now.frames_are 0 refl _ _ _ _ c.unfreeze.ensures))).0 tt (search rules)
+    c.in-Some.ensures.taken c.in-Some.ensures.frames c.in-Some-frame.head c.in-Some-frame.ensures.0 in
+    (may.1 _ (c.make_step-2.ensures.run _ _ (search rules))).1 _ (c.make_step-3.ensures.run _ _ (search rules))
 
 pub invariant_of-self-2 : goal.invariant_of-self-2
 invariant_of-self-2 g c =
-    let t = g.N.BootName.frames in
+    let t = g.N.BootName.table in
     let m = machine_of c.self.inside in
     let fits : c.args.group < 64 = search rules in
     let j = c.join_list.ensures in
-    let noted = taken_notes t _ _ _ _ _ c.args.group c.args.order _ c.in-Some-frame.head _ c.frames-pages.ensures.frames c.number-frame.ensures
-    (c.make_step-2.ensures.notes _ _ (search rules)) (c.make_step-3.ensures.notes _ _ (search rules)) (made_at _ _ c.args.tables.now.frames_are 0 refl _ _ _ _ c.unfreeze.ensures) (c.take-2.ensures _ _ (search rules)) (c.make_step-4.ensures.notes _ _ (search rules)) in
+    let noted = taken_notes t _ _ _ _ c.args.group c.args.order _ c.in-Some-frame.head c.in-Some.block c.frames-pages.ensures.frames c.in-Some-frame.ensures.0
+    c.in-Some.ensures.taken.order_is (c.make_step-2.ensures.notes _ _ (search rules)) (c.make_step-3.ensures.notes _ _ (search rules)) c.publish.ensures in
     let all = taken_all t m _ c.self.view_is c.self.invariant.consistent c.prove_charges.ensures.legal c.requires.visit.held c.args.group fits c.args.order _
     c.frames-pages.ensures.frames c.requires.charges (c.in_default.ensures.granted.0 refl) _ c.in_default.ensures.charged c.in_default.ensures.pages _ _ c.in-Some.block _
-    c.self.invariant.free c.in-Some.ensures.taken c.in-Some.ensures.frames c.in-Some.ensures.areas _ c.place_unit.ensures c.in-Some-frame.head _ c.in-Some-frame.ensures.0
-    c.number-frame.ensures _ _ (record { joins = j.joins; stand = j.lists.stand; frames = j.frames; groups = j.lists.groups }) _ noted in
+    c.self.invariant.free c.in-Some.ensures.taken c.in-Some.ensures.frames c.in-Some.ensures.areas _ c.place_unit.ensures c.in-Some-frame.head c.in-Some-frame.ensures.0
+    _ _ (record { joins = j.joins; stand = j.lists.stand; frames = j.frames; groups = j.lists.groups }) _ noted in
     let held = held_here t m _ c.self.view_is c.requires.visit.held in
     record {
       consistent = all.consistent;
@@ -161,16 +148,16 @@ invariant_of-self-2 g c =
 
 pub returns : goal.returns
 returns g c =
-    let t = g.N.BootName.frames in
+    let t = g.N.BootName.table in
     let m = machine_of c.self.inside in
     let fits : c.args.group < 64 = search rules in
     let j = c.join_list.ensures in
     let all = taken_all t m _ c.self.view_is c.self.invariant.consistent c.prove_charges.ensures.legal c.requires.visit.held c.args.group fits c.args.order _
     c.frames-pages.ensures.frames c.requires.charges (c.in_default.ensures.granted.0 refl) _ c.in_default.ensures.charged c.in_default.ensures.pages _ _ c.in-Some.block _
-    c.self.invariant.free c.in-Some.ensures.taken c.in-Some.ensures.frames c.in-Some.ensures.areas _ c.place_unit.ensures c.in-Some-frame.head _ c.in-Some-frame.ensures.0
-    c.number-frame.ensures _ _ (record { joins = j.joins; stand = j.lists.stand; frames = j.frames; groups = j.lists.groups }) _
-    (taken_notes t _ _ _ _ _ c.args.group c.args.order _ c.in-Some-frame.head _ c.frames-pages.ensures.frames c.number-frame.ensures
-    (c.make_step-2.ensures.notes _ _ (search rules)) (c.make_step-3.ensures.notes _ _ (search rules)) (made_at _ _ c.args.tables.now.frames_are 0 refl _ _ _ _ c.unfreeze.ensures) (c.take-2.ensures _ _ (search rules)) (c.make_step-4.ensures.notes _ _ (search rules))) in
+    c.self.invariant.free c.in-Some.ensures.taken c.in-Some.ensures.frames c.in-Some.ensures.areas _ c.place_unit.ensures c.in-Some-frame.head c.in-Some-frame.ensures.0
+    _ _ (record { joins = j.joins; stand = j.lists.stand; frames = j.frames; groups = j.lists.groups }) _
+    (taken_notes t _ _ _ _ c.args.group c.args.order _ c.in-Some-frame.head c.in-Some.block c.frames-pages.ensures.frames c.in-Some-frame.ensures.0
+    c.in-Some.ensures.taken.order_is (c.make_step-2.ensures.notes _ _ (search rules)) (c.make_step-3.ensures.notes _ _ (search rules)) c.publish.ensures) in
     record { takes = all.takes; refuses = search rules; cpu = search rules; visit = all.visit _ c.requires.visit; steps = all.steps }
 
 -- ---- what the calls ask for

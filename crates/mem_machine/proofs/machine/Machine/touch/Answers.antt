@@ -7,7 +7,7 @@ unreachable-requires g c = has_home _ _ c.self.view_is c.args.head _ c.number-at
 
 pub invariant_of-self : goal.invariant_of-self
 invariant_of-self g c = record {
-  consistent = (touch_all g.N.BootName.frames _ _ c.self.view_is c.self.invariant.consistent c.args.head _ c.requires.frame c.number-at.ensures c.in-Some.home
+  consistent = (touch_all g.N.BootName.table _ _ c.self.view_is c.self.invariant.consistent c.args.head _ c.requires.frame c.number-at.ensures c.in-Some.home
       c.in-Some.ensures _ c.index.ensures _ _ c.touch-touched.result c.touch-touched.ensures.linked c.touch-touched.ensures.owner
       c.touch-touched.ensures.touches
       c.touch-touched.ensures.others c.others_stay_linked.ensures c.one_of_all_changes.ensures).consistent;
@@ -18,7 +18,7 @@ invariant_of-self g c = record {
 
 pub returns : goal.returns
 returns g c =
-    let all = touch_all g.N.BootName.frames _ _ c.self.view_is c.self.invariant.consistent c.args.head _ c.requires.frame c.number-at.ensures
+    let all = touch_all g.N.BootName.table _ _ c.self.view_is c.self.invariant.consistent c.args.head _ c.requires.frame c.number-at.ensures
     c.in-Some.home
     c.in-Some.ensures _ c.index.ensures _ _ c.touch-touched.result c.touch-touched.ensures.linked c.touch-touched.ensures.owner c.touch-touched.ensures.touches
     c.touch-touched.ensures.others c.others_stay_linked.ensures c.one_of_all_changes.ensures in

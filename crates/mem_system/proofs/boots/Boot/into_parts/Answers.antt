@@ -1,9 +1,8 @@
 use Rattle.std.proofs.Common.{◌≡◌, ◌+◌, suc, Some, List, All, arith, length, sym, ap, ◌∙◌, subst}
 use Rattle.std.specs.Prelude.{slice_get}
 use Rattle.std.proofs.lemmas.List.{length-map}
-use Rattle.frame_word.specs.Seats.{KnownTable}
 use Rattle.boot_words.specs.declared.past.Past.{Past}
-use Rattle.boot_words.specs.{IsAwayCpu, cpus_at_first, KnownPasts, own_past, AllOf}
+use Rattle.boot_words.specs.{IsAwayCpu, cpus_at_first, KnownPasts, own_past, AllOf, KnownTable}
 use Rattle.boot_words.proofs.Gaining.{a_boot_has_no_steps}
 use Rattle.cpu_part.specs.Cpus.{IsIdle}
 use Rattle.mem_system.specs.{KnownBoot, CpuInRun, pasts_of}
@@ -13,11 +12,11 @@ use Rattle.mem_system.proofs.boots.Boot.into_parts.Goals as goal
 pub make_cpus-requires-clause-seats : goal.make_cpus-requires-clause-seats
 make_cpus-requires-clause-seats g c =
     c.self.invariant.cpus_are
-    ∙ ap (λ (t : KnownTable). cpus_at_first t.table 1 c.self.inside.sizes.cpus) (ap (λ (b : KnownBoot). b.frames) c.self.view_is ∙ c.requires.frames)
+    ∙ ap (λ (t : KnownTable). cpus_at_first t.table 1 c.self.inside.sizes.cpus) (ap (λ (b : KnownBoot). b.table) c.self.view_is ∙ c.requires.table)
 
 pub make_cpus-requires-clause-away : goal.make_cpus-requires-clause-away
 make_cpus-requires-clause-away g c =
-    subst (λ (t : KnownTable). AllOf (IsAwayCpu t) c.self.inside.cpus.items) (ap (λ (b : KnownBoot). b.frames) c.self.view_is ∙ c.requires.frames)
+    subst (λ (t : KnownTable). AllOf (IsAwayCpu t) c.self.inside.cpus.items) (ap (λ (b : KnownBoot). b.table) c.self.view_is ∙ c.requires.table)
     c.self.invariant.away
 
 pub take_apart-requires : goal.take_apart-requires
@@ -26,7 +25,7 @@ take_apart-requires g c = subst (All IsIdle) (sym c.in_ok-cpus.ensures.parts) (c
 pub returns-in-Ok-clause-count : goal.returns-in-Ok-clause-count
 returns-in-Ok-clause-count g c =
     sym (length-map c.in_ok-cpus.cpus.items (λ (cpu : CpuInRun). cpu.part)) ∙ ap length c.in_ok-cpus.ensures.parts ∙ cpus_long 1 c.self.inside.sizes.cpus
-    ∙ sym c.self.invariant.sized.cpus ∙ ap (λ (t : KnownTable). t.cpus) (ap (λ (b : KnownBoot). b.frames) c.self.view_is ∙ c.requires.frames)
+    ∙ sym c.self.invariant.sized.cpus ∙ ap (λ (t : KnownTable). t.cpus) (ap (λ (b : KnownBoot). b.table) c.self.view_is ∙ c.requires.table)
 
 pub returns-in-Ok-clause-so_far : goal.returns-in-Ok-clause-so_far
 returns-in-Ok-clause-so_far g c =

@@ -5,4 +5,4 @@ use Rattle.mem_system.proofs.cpus.Cpu.new.Goals as goal
 
 pub invariant_of-result : goal.invariant_of-result
 invariant_of-result g c =
-    knows_first g.N.BootName.frames c.args.seat c.in_ok-part.part c.requires.seat c.requires.away (c.in_ok-part.ensures ∙ ap first_cpu c.number.ensures)
+    knows_first g.N.BootName.table c.args.seat c.in_ok-part.part c.requires.seat c.requires.away (c.in_ok-part.ensures ∙ ap first_cpu c.number.ensures)

@@ -26,15 +26,15 @@ returns-then-frame-self g c =
 
 pub serve_inlined-requires-clause-there : goal.serve_inlined-requires-clause-there
 serve_inlined-requires-clause-there g c =
-    let below : c.in-Some.frame < g.N.BootName.frames.frames = search rules in record {
+    let below : c.in-Some.frame < g.N.BootName.table.frames = search rules in record {
       low = c.requires.there.low;
       high = c.requires.there.high;
-      names = (c.in-Some.ensures.named g.N.BootName.frames.frames).1 below;
+      names = (c.in-Some.ensures.named g.N.BootName.table.frames).1 below;
     }
 
 pub serve-requires-clause-there : goal.serve-requires-clause-there
 serve-requires-clause-there g c = record {
   low = c.requires.there.low;
   high = c.requires.there.high;
-  names = c.in-None.ensures.none g.N.BootName.frames.frames;
+  names = c.in-None.ensures.none g.N.BootName.table.frames;
 }

@@ -9,7 +9,7 @@ use Rattle.tempolemon_c.proofs.live.Live.serve_inlined.Goals as goal
 
 pub returns : goal.returns
 returns g c =
-    let frames = g.N.BootName.frames in
+    let frames = g.N.BootName.table in
     let inside = c.self.inside in
     let cpu = c.args.cpu in
     let command : Command = c.args.command.now in

@@ -33,14 +33,14 @@ returns g c =
       unread_answer = c.self.inside.unread_answer.items;
     } in
     let says : (named : Bor (List ℕ)) → number_at live.state.locked.machine.ledger.groups named.now ≡ Some group
-    → SaysCommand g.N.BootName.frames c.args.cpu (cmd.Alloc named 0) live.state left.state
+    → SaysCommand g.N.BootName.table c.args.cpu (cmd.Alloc named 0) live.state left.state
     (answer_of left.state.locked.machine.ledger c.alloc_value.result) =
-    λ named found. subst (λ cpus. SaysCommand g.N.BootName.frames c.args.cpu (cmd.Alloc named 0)
+    λ named found. subst (λ cpus. SaysCommand g.N.BootName.table c.args.cpu (cmd.Alloc named 0)
     (system_state c.self.inside.locked cpus) left.state (answer_of left.state.locked.machine.ledger c.alloc_value.result))
     c.deref_mut.ensures.value (c.alloc_value.ensures.answer named found) in
     let most : c.args.cpu ≤ c.self.inside.sizes.cpus = search rules in
     let exists : IsCpu c.self.inside.sizes.cpus c.args.cpu = record { low = c.requires.there.low; high = most } in
-    let frames = g.N.BootName.frames in
+    let frames = g.N.BootName.table in
     let inside = c.self.inside in
     let cpus = c.alloc_value.new.cpus in
     let short : inside.cpus.len ≤ length cpus = search rules in

@@ -20,12 +20,12 @@ pub into_box_parts_spec : {M : Type 1} → stated.statement M
 into_box_parts_spec 𝓤 𝓛 𝓜 𝓡 wired N L g d met =
     let args : Args = bounded (a_type ∷ []) (N, tt) (dcons d dnil) in let P = param 0 N in
     let From = LivePointer.the_type P in let To = BoxParts.the_type (Live.the_row P g) Heap.the_row ghosts in
-    let IsHere = λ (x : From.D). IsSome x.live × (x.frames ≡ g.frames) in
+    let IsHere = λ (x : From.D). IsSome x.live × (x.frames ≡ g.table) in
     moved 𝓛 𝓜 𝓡 1 (LivePointer.the_row P) To no (F.clauses N g d 𝓛 𝓜.mem 𝓡.returns)
     (λ x. x.ptr) (λ x. x.alloc) (λ x. live_owns P x.frames x.alloc x.ptr x.live)
     IsHere (λ x here. record { ptr = x.ptr; alloc = x.alloc; value = (some_of x.live here.0).0 })
     (λ κs x h. snd∗ 𝓤 (fact 𝓤 (κs.0 ⊑ N.lives)) (fact 𝓤 (IsHere x)))
     (λ x here vs. ap (λ F. owned (shape To) x.ptr x.alloc F vs)
-    (ap (λ f. live_owns P f x.alloc x.ptr x.live) here.1 ∙ ap (live_owns P g.frames x.alloc x.ptr) (sym (some_of x.live here.0).1)))
+    (ap (λ f. live_owns P f x.alloc x.ptr x.live) here.1 ∙ ap (live_owns P g.table x.alloc x.ptr) (sym (some_of x.live here.0).1)))
     (λ κs x here h w. shown 𝓤 (some_of x.live here.0).1)
     (shape From) (#self args) (inst_fn args code.function) (code.unfolded 𝓤 𝓛.H 𝓜 𝓡 wired (N, tt) d) (λ x f. tt) (λ x vs. refl)

@@ -15,7 +15,7 @@ of_spec 𝓤 𝓛 𝓜 𝓡 wired N L g d met =
     let args : Args = bounded (a_type ∷ []) (N, tt) (dcons d dnil) in let R = Live.the_row (param 0 N) g in
     moved 𝓛 𝓜 𝓡 1 (BoxParts.the_row R Heap.the_row ghosts) (LivePointer.the_type (param 0 N)) no (F.clauses N g d 𝓛 𝓜.mem 𝓡.returns)
     (λ x. x.ptr) (λ x. x.alloc) (λ x. box_owns (ghosts.dealloc_token x.alloc) R x.ptr x.value)
-    (λ x. Unit {0}) (λ x t. record { ptr = x.ptr; alloc = x.alloc; frames = g.frames; live = Some x.value })
+    (λ x. Unit {0}) (λ x t. record { ptr = x.ptr; alloc = x.alloc; frames = g.table; live = Some x.value })
     (λ κs x h. always 𝓤 _) (λ x t vs. refl) (λ κs x t h w. shown 𝓤 (refl, refl))
     (shape (BoxParts.the_type R Heap.the_row ghosts)) (#self args) (inst_fn args code.function)
     (code.unfolded 𝓤 𝓛.H 𝓜 𝓡 wired (N, tt) d) (λ x f. tt) (λ x vs. refl)

@@ -12,7 +12,7 @@ pub none_spec : {M : Type 1} → stated.statement M
 none_spec 𝓤 𝓛 𝓜 𝓡 wired N L g d met =
     let args : Args = bounded (a_type ∷ []) (N, tt) (dcons d dnil) in let To = HomePointer.the_type (param 0 N) in
     made 𝓛 𝓜 𝓡 1 Heap.the_row To yes (F.clauses N g d 𝓛 𝓜.mem 𝓡.returns) (λ a. null_ptr) (λ a. a) (λ a. ftrue)
-    (λ a. Unit {0}) (λ a t. record { ptr = null_ptr; alloc = a; frames = g.frames; home = None })
+    (λ a. Unit {0}) (λ a t. record { ptr = null_ptr; alloc = a; frames = g.table; home = None })
     (λ κs a h. always 𝓤 _) (λ a t vs. refl) (λ κs a t h w. shown 𝓤 (refl, refl))
     (#self args) (inst_fn args code.function) (code.unfolded 𝓤 𝓛.H 𝓜 𝓡 wired (N, tt) d) (λ a f. tt)
     (λ a. makes_null 𝓛 _ _ (shape To) (inst_fn args code.function) a)

@@ -1,6 +1,6 @@
 -- A pointer to a home may cross threads, as the home may.
+use Rattle.boot_words.specs.Tables.{KnownTable}
 use Rattle.host_memory.proofs.Sends.{Ptr, exits_of, shape, fields, to, IsSend, AllSend, owning_send, struct_send, sendable, Keyless, Option, None, Some, Global, quiet, the_field_send, box_crosses}
-use Rattle.frame_word.specs.Seats.{KnownTable}
 use Rattle.zone_threads.specs.Homes.{KnownHome}
 use Rattle.zone_threads.proofs.home.Home.TheSendSync.{the_send as home_send}
 use Rattle.tempolemon_threads.specs.Owned.{brand, home_row, home_owns}
@@ -8,7 +8,7 @@ use Rattle.tempolemon_threads.specs.contracts.raw.RawHome.{the_row, the_type}
 
 owned : (f : KnownTable) (a : Global) (p : Ptr) (o : Option KnownHome) → Keyless (home_owns brand f a p o)
 owned f a p None = tt
-owned f a p (Some home) = box_crosses (home_row brand f) (home_send brand (record { frames = f })) a p home
+owned f a p (Some home) = box_crosses (home_row brand f) (home_send brand (record { table = f })) a p home
 
 pub send : IsSend the_row
 send =

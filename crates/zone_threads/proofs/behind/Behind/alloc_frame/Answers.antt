@@ -6,7 +6,7 @@ use Rattle.zone_threads.proofs.behind.Behind.alloc_frame.Goals as goal
 
 pub returns-clause-served : goal.returns-clause-served
 returns-clause-served g c =
-    let t = g.N.BootName.frames in
+    let t = g.N.BootName.table in
     let done = c.serve_frame_outcome-outcome in record {
       found = c.self.inside.locked;
       left = done.new.locked;

@@ -1,9 +1,9 @@
 -- Serves `read`: the reply is what the charges after the visit make of the outcome.
 use Rattle.std.proofs.Common.{◌≡◌, ◌≢◌, ◌∙◌, ap, sym, subst}
 use Rattle.zone_blocks.specs.declared.config.Config.{Config}
-use Rattle.frame_word.specs.Seats.{KnownTable}
 use Rattle.group_charge.specs.Charges.{Ledger}
 use Rattle.control_files.specs.Files as files
+use Rattle.boot_words.specs.Tables.{KnownTable}
 use Rattle.mem_system.specs.Cpus.{CpuInRun}
 use Rattle.mem_system.specs.declared.command.LockedCommand.{LockedCommand}
 use Rattle.mem_system.specs.declared.command.LockedCommand.TheVariants as cmd
@@ -31,7 +31,7 @@ replied t sizes asked outcome reply from to v is = record {
 
 pub returns-in-Refused : goal.returns-in-Refused
 returns-in-Refused g c =
-    replied g.N.BootName.frames c.args.self.now.locked.sizes (cmd.Read c.args.asked.now.path c.args.asked.now.file) c.serve_outcome-outcome.result
+    replied g.N.BootName.table c.args.self.now.locked.sizes (cmd.Read c.args.asked.now.path c.args.asked.now.file) c.serve_outcome-outcome.result
     (reply.Refused c.in-Refused.fault) c.args.cpu.now c.serve_outcome-outcome.new.cpu
     (record {
       found = c.self.inside.locked;
@@ -45,7 +45,7 @@ returns-in-Refused g c =
 
 pub returns-in-Stat : goal.returns-in-Stat
 returns-in-Stat g c =
-    replied g.N.BootName.frames c.args.self.now.locked.sizes (cmd.Read c.args.asked.now.path c.args.asked.now.file) c.serve_outcome-outcome.result
+    replied g.N.BootName.table c.args.self.now.locked.sizes (cmd.Read c.args.asked.now.path c.args.asked.now.file) c.serve_outcome-outcome.result
     (reply.Text c.stat_text.result) c.args.cpu.now c.serve_outcome-outcome.new.cpu
     (record {
       found = c.self.inside.locked;
@@ -59,7 +59,7 @@ returns-in-Stat g c =
 
 pub returns : goal.returns
 returns g c =
-    let t = g.N.BootName.frames in
+    let t = g.N.BootName.table in
     let sizes = c.args.self.now.locked.sizes in
     let ledger = c.serve_outcome-outcome.new.locked.machine.ledger in
     let group : c.in-Text.group ≢ 0 = (subst (HasItsGroups ledger) c.in-Text.is c.serve_outcome-outcome.ensures.groups).1 in

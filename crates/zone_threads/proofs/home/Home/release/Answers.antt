@@ -1,7 +1,7 @@
 -- Serves `release`: what the CPU couldn't list is released under the lock.
 use Rattle.std.proofs.Common.{◌≡◌, ◌∙◌, ℕ, Some, refl, rules, subst, sym}
 use Rattle.zone_blocks.specs.declared.config.Config.{Config}
-use Rattle.frame_word.specs.Seats.{KnownTable}
+use Rattle.boot_words.specs.Tables.{KnownTable}
 use Rattle.mem_system.specs.Cpus.{CpuInRun}
 use Rattle.mem_system.specs.declared.command.LockedCommand.TheVariants as cmd
 use Rattle.mem_system.specs.declared.outcome.Outcome.{Outcome}
@@ -34,5 +34,5 @@ released t number outcome before between after from seen was now sizes change mi
 
 pub returns-in-Some-serve : goal.returns-in-Some-serve
 returns-in-Some-serve g c =
-    released g.N.BootName.frames c.args.number c.in-Some-serve.outcome c.args.self.now _ c.serve.new.self c.in-Some.cpu c.relist.new.cpu
+    released g.N.BootName.table c.args.number c.in-Some-serve.outcome c.args.self.now _ c.serve.new.self c.in-Some.cpu c.relist.new.cpu
     (search rules) refl (search rules) (search rules) (search rules) c.in-Some-serve.ensures.served

@@ -1,5 +1,0 @@
-use Rattle.std.proofs.Common.{rules}
-use Rattle.cpu_part.proofs.cpu.CpuLists.back_len.Goals as goal
-
-pub returns : goal.returns
-returns g c = search rules

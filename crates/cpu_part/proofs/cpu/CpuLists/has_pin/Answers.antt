@@ -1,6 +1,0 @@
-use Rattle.std.proofs.Common.{arith}
-use Rattle.step_rules.proofs.Lists.{stands_at}
-use Rattle.cpu_part.proofs.cpu.CpuLists.has_pin.Goals as goal
-
-pub returns : goal.returns
-returns g c = grind (arith, stands_at)

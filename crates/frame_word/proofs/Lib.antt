@@ -1,3 +1,0 @@
-pub mod Notes
-pub mod Consequences
-pub mod Totals

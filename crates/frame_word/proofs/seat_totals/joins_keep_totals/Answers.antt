@@ -1,5 +1,0 @@
-use Rattle.frame_word.proofs.Totals.{join_totals}
-use Rattle.frame_word.proofs.seat_totals.joins_keep_totals.Goals as goal
-
-pub returns : goal.returns
-returns g c = join_totals

@@ -1,5 +1,0 @@
-use Rattle.frame_word.proofs.Totals.{split_totals}
-use Rattle.frame_word.proofs.seat_totals.splits_keep_totals.Goals as goal
-
-pub returns : goal.returns
-returns g c = split_totals

@@ -1,0 +1,95 @@
+-- A CPU that may have one more pin may still have it after an allocation of a block, and what such a call answers. Serves
+-- `Behind::alloc_pinned` and `Home::alloc_pinned`.
+use Rattle.std.proofs.Common.{◌≡◌, ◌≢◌, ◌∙◌, ℕ, ◌+◌, ◌<◌, ◌≤◌, Some, List, [], ◌∷◌, length, ap, arith, inl, inr, refl, subst}
+use Rattle.std.specs.Prelude.{Ok}
+use Rattle.std.specs.Borrow.{Bor}
+use Rattle.std.proofs.lemmas.Bool.{cases_Bool}
+use Rattle.boot_words.specs.Tables.{KnownTable}
+use Rattle.zone_blocks.specs.declared.config.Config.{Config}
+use Rattle.group_tree.specs.declared.fault.Fault.TheVariants.{NotPinned}
+use Rattle.cpu_part.specs.Cpus.{KnownCpuLists}
+use Rattle.mem_machine.specs.{ReturnsAllBack, Settles, SettlesAllFresh, SettlesFresh, Transition, transition, UnlistsMany, VisitState, is_fresh_killed}
+use Rattle.mem_machine.specs.{visit_state}
+use Rattle.mem_alloc.specs.{AllocatesBlock, FindsNoBlock, TakesFreeBlock}
+use Rattle.mem_system.specs.declared.command.LockedCommand.TheVariants.{Alloc}
+use Rattle.mem_system.specs.declared.command.ReplyWithText.TheVariants.{Frame}
+use Rattle.mem_system.specs.declared.outcome.Outcome.{Outcome}
+use Rattle.mem_system.specs.declared.outcome.Outcome.TheVariants as outcome
+use Rattle.mem_system.specs.{CpuInRun, IsServed, LockedState}
+use Rattle.zone_threads.specs.Calling.{AllocatesPinned, Calls, CallsAllocPinned, HasPinRoom, MayPinBlock, ServesBlock, ServesPinned}
+use Rattle.zone_threads.specs.{KnownHome}
+use Rattle.zone_threads.specs.declared.calls.Call.TheVariants.{AllocPinned}
+use Rattle.zone_threads.specs.declared.calls.CallAnswer.{CallAnswer}
+use Rattle.zone_threads.specs.declared.calls.CallAnswer.TheVariants as answer
+
+abbrev pins_at : VisitState → List ℕ
+pins_at now = now.cpu.pins
+
+unlisted_pins : (frames : List ℕ) (m n : VisitState) → UnlistsMany frames m n → pins_at n ≡ pins_at m
+unlisted_pins [] m n s = ap (λ (c : KnownCpuLists). c.pins) s.cpu
+unlisted_pins (f ∷ rest) m n s = unlisted_pins rest s.between n s.rest ∙ ap (λ (c : KnownCpuLists). c.pins) s.first.cpu
+
+-- the list may be returned to the zone, but no pin is put
+block_pins : (g k f : ℕ) (call : Transition VisitState) → AllocatesBlock g k (Ok f) call → pins_at call.after ≡ pins_at call.before
+block_pins g k f call h = elim h [
+  | inl once ↦ ap (λ (c : KnownCpuLists). c.pins) once.does.does.cpu
+  | inr again ↦
+      unlisted_pins again.does.between.cpu.list again.does.between (visit_state again.does.second.drained call.after.cpu) again.does.second.drains
+      ∙ ap (λ (c : KnownCpuLists). c.pins) again.does.first.does.cpu
+]
+
+fresh_pins : (t : KnownTable) (f : ℕ) (m n : VisitState) → SettlesFresh t f m n → pins_at n ≡ pins_at m
+fresh_pins t f m n s = elim (cases_Bool (is_fresh_killed t m)) [
+  | inl killed ↦ ap (λ (c : KnownCpuLists). c.pins) (s.drops killed).cpu.cpu
+  | inr alive ↦ ap (λ (c : KnownCpuLists). c.pins) (s.keeps alive).cpu.cpu
+]
+
+all_fresh_pins : (t : KnownTable) (frames : List ℕ) (m n : VisitState) → SettlesAllFresh t frames m n → pins_at n ≡ pins_at m
+all_fresh_pins t [] m n s = ap (λ (c : KnownCpuLists). c.pins) s.cpu
+all_fresh_pins t (f ∷ rest) m n s = all_fresh_pins t rest s.between n s.rest ∙ fresh_pins t f m s.between s.first
+
+all_back_pins : (frames : List ℕ) (m n : VisitState) → ReturnsAllBack frames m n → pins_at n ≡ pins_at m
+all_back_pins [] m n s = ap (λ (c : KnownCpuLists). c.pins) s.cpu
+all_back_pins (f ∷ rest) m n s = all_back_pins rest s.between n s.rest ∙ ap (λ (c : KnownCpuLists). c.pins) s.first.cpu
+
+settled_pins : (t : KnownTable) (m n : VisitState) → Settles t m n → pins_at n ≡ pins_at m
+settled_pins t m n s = all_back_pins m.cpu.back s.mid n s.back ∙ all_fresh_pins t m.cpu.fresh m s.mid s.fresh
+
+-- after the allocation no frame is back, and the pins are the same
+pub room_left : (t : KnownTable) (path : Bor (List ℕ)) (order f : ℕ) (start now : LockedState) → 1 ≤ order
+    → IsServed t (Alloc path order) (Frame f) start now → now.cpu.part.back ≡ [] → HasPinRoom start.cpu → HasPinRoom now.cpu
+room_left t path order f start now some a back room =
+    let call = transition t a.serves.settled a.serves.inner (visit_state a.serves.done now.cpu.part) in
+    let block = block_pins a.serves.executes.group order f call (a.serves.executes.allocates.block (λ e. omega (arith, e, some))) in
+    let pins = ap length (block ∙ settled_pins t _ a.serves.settled a.serves.settles) in
+    let none = ap length back in omega (arith, pins, none, room)
+
+-- ---- the answers
+
+-- if no frame was given, the refusal is that of the allocation
+pub refusal_served : (t : KnownTable) (group order : ℕ) (given : Outcome) (before after : LockedState) → ((f : ℕ) → given ≢ outcome.Frame f)
+    → ServesBlock t group order given before after → ServesPinned t group order given before after
+refusal_served t group order (outcome.Frame f) before after none served = absurd (none f refl)
+refusal_served t group order other before after none served = served
+
+-- what was done under the lock is what the call says
+pinned_answer : (t : KnownTable) (sizes : Config) (group order : ℕ) (said : CallAnswer) (from to : CpuInRun) → MayPinBlock order from
+    → AllocatesPinned t sizes group order said from to → CallsAllocPinned t sizes group order said from to
+pinned_answer t sizes group order answer.NoGroup from to may done = (may, done)
+pinned_answer t sizes group order (answer.Served given) from to may done = (may, done)
+pinned_answer t sizes group order (answer.Refused NotPinned) from to may done = (may, done)
+pinned_answer t sizes group order other from to may done = absurd done
+
+-- the sizes that were found are those of the zone
+pub pinned_found : (t : KnownTable) (group order : ℕ) (before after : KnownHome) (from to : CpuInRun) → before.cpu ≡ Some from → after.cpu ≡ Some to
+    → after.sizes ≡ before.sizes → after.change ≡ before.change → (sizes : Config) → sizes ≡ before.sizes → (said : CallAnswer) → MayPinBlock order from
+    → AllocatesPinned t sizes group order said from to → Calls t (AllocPinned group order) before after said
+pinned_found t group order before after from to was is stays change sizes same said may done = record {
+  from = from;
+  to = to;
+  sizes = stays;
+  change = change;
+  was = was;
+  is = is;
+  done = pinned_answer t before.sizes group order said from to may (subst (λ (s : Config). AllocatesPinned t s group order said from to) same done);
+}

@@ -1,0 +1,84 @@
+-- Serves `alloc_pinned`: the visit serves the path of the group that was found, and the CPU may still have one more pin.
+use Rattle.std.proofs.Common.{rules, ◌≡◌, ◌∙◌, Some, ap, sym, refl}
+use Rattle.group_tree.specs.Groups.{path_of}
+use Rattle.group_charge.specs.Charges.{Ledger}
+use Rattle.mem_system.specs.{locked_state}
+use Rattle.mem_system.proofs.Dirtying.{given_inside}
+use Rattle.zone_threads.specs.Homes.{KnownBehind}
+use Rattle.zone_threads.proofs.Pinning.{refusal_served, room_left}
+use Rattle.zone_threads.proofs.behind.Behind.alloc_pinned.Goals as goal
+
+pub returns-in_default-outcome : goal.returns-in_default-outcome
+returns-in_default-outcome g c =
+    let done = c.serve_outcome-outcome in
+    let groups : c.self.inside.locked.machine.ledger.groups ≡ c.tree.result.now = ap (λ (l : Ledger). l.groups) (sym c.charges-2.ensures) ∙ sym c.tree.ensures.tree in
+    let named : path_of c.self.inside.locked.machine.ledger.groups c.args.group ≡ Some c.as_bytes-path.result.now
+    = (λ i. path_of (groups i) (sym c.in-Some.ensures.found.0 i)) ∙ c.path_of.ensures.value ∙ ap Some (sym c.as_bytes-path.ensures.text) in record {
+      found = c.self.inside.locked;
+      left = done.new.locked;
+      sizes_are = ap (λ (b : KnownBehind). b.locked.sizes) c.self.view_is;
+      sound_before = record { quiet = c.prove_quiet.ensures.quiet; consistent = c.prove_quiet.ensures.consistent; charges = c.prove_quiet.ensures.charges };
+      served = refusal_served _ _ _ _ _ _ c.in_default-outcome.not-Frame (record { path = c.as_bytes-path.result; path_is = named; serves = done.ensures.served });
+      sound_after = record { quiet = c.prove_quiet-2.ensures.quiet; consistent = c.prove_quiet-2.ensures.consistent; charges = c.prove_quiet-2.ensures.charges };
+    }
+
+pub pin-requires-clause-room : goal.pin-requires-clause-room
+pin-requires-clause-room g c =
+    room_left g.N.BootName.table c.as_bytes-path.result c.args.order c.in-Frame.frame (locked_state c.self.inside.locked c.args.cpu.now)
+    (locked_state c.serve_outcome-outcome.new.locked c.serve_outcome-outcome.new.cpu) c.requires.1.0 c.in-Frame.ensures.served c.in-Frame.ensures.settled.1 c.requires.0
+
+pub pin-requires-clause-frame : goal.pin-requires-clause-frame
+pin-requires-clause-frame g c =
+    given_inside g.N.BootName.table c.as_bytes-path.result c.in-Frame.frame (locked_state c.self.inside.locked c.args.cpu.now)
+    (locked_state c.serve_outcome-outcome.new.locked c.serve_outcome-outcome.new.cpu) c.args.order c.in-Frame.ensures.served c.in-Frame.ensures.settled.0
+    c.prove_quiet-2.ensures.consistent
+
+pub returns-then-pin : goal.returns-then-pin
+returns-then-pin g c =
+    let done = c.serve_outcome-outcome in
+    let groups : c.self.inside.locked.machine.ledger.groups ≡ c.tree.result.now = ap (λ (l : Ledger). l.groups) (sym c.charges-2.ensures) ∙ sym c.tree.ensures.tree in
+    let named : path_of c.self.inside.locked.machine.ledger.groups c.args.group ≡ Some c.as_bytes-path.result.now
+    = (λ i. path_of (groups i) (sym c.in-Some.ensures.found.0 i)) ∙ c.path_of.ensures.value ∙ ap Some (sym c.as_bytes-path.ensures.text) in record {
+      found = c.self.inside.locked;
+      left = done.new.locked;
+      sizes_are = ap (λ (b : KnownBehind). b.locked.sizes) c.self.view_is;
+      sound_before = record { quiet = c.prove_quiet.ensures.quiet; consistent = c.prove_quiet.ensures.consistent; charges = c.prove_quiet.ensures.charges };
+      served = record {
+        between = locked_state done.new.locked done.new.cpu;
+        allocates = record { path = c.as_bytes-path.result; path_is = named; serves = c.in-Frame.ensures.served };
+        lock_kept = refl;
+        asks = search rules;
+      };
+      sound_after = record { quiet = c.prove_quiet-2.ensures.quiet; consistent = c.prove_quiet-2.ensures.consistent; charges = c.prove_quiet-2.ensures.charges };
+    }
+
+pub serve_outcome-released-requires : goal.serve_outcome-released-requires
+serve_outcome-released-requires g c =
+    given_inside g.N.BootName.table c.as_bytes-path.result c.in-Frame.frame (locked_state c.self.inside.locked c.args.cpu.now)
+    (locked_state c.serve_outcome-outcome.new.locked c.serve_outcome-outcome.new.cpu) c.args.order c.in-Frame.ensures.served c.in-Frame.ensures.settled.0
+    c.prove_quiet-2.ensures.consistent
+
+pub returns : goal.returns
+returns g c =
+    let done = c.serve_outcome-outcome in
+    let groups : c.self.inside.locked.machine.ledger.groups ≡ c.tree.result.now = ap (λ (l : Ledger). l.groups) (sym c.charges-2.ensures) ∙ sym c.tree.ensures.tree in
+    let named : path_of c.self.inside.locked.machine.ledger.groups c.args.group ≡ Some c.as_bytes-path.result.now
+    = (λ i. path_of (groups i) (sym c.in-Some.ensures.found.0 i)) ∙ c.path_of.ensures.value ∙ ap Some (sym c.as_bytes-path.ensures.text) in record {
+      found = c.self.inside.locked;
+      left = c.serve_outcome-released.new.locked;
+      sizes_are = ap (λ (b : KnownBehind). b.locked.sizes) c.self.view_is;
+      sound_before = record { quiet = c.prove_quiet.ensures.quiet; consistent = c.prove_quiet.ensures.consistent; charges = c.prove_quiet.ensures.charges };
+      served = record {
+        frame = c.in-Frame.frame;
+        missed = locked_state done.new.locked c.pin.new.cpu;
+        outcome = c.serve_outcome-released.result;
+        allocates = record {
+          between = locked_state done.new.locked done.new.cpu;
+          allocates = record { path = c.as_bytes-path.result; path_is = named; serves = c.in-Frame.ensures.served };
+          lock_kept = refl;
+          asks = search rules;
+        };
+        releases = c.serve_outcome-released.ensures.served;
+      };
+      sound_after = record { quiet = c.prove_quiet-3.ensures.quiet; consistent = c.prove_quiet-3.ensures.consistent; charges = c.prove_quiet-3.ensures.charges };
+    }
