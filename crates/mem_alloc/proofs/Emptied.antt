@@ -51,7 +51,7 @@ few t r g pages m n steps held k = elim (cases_lt 8 pages) [
 unless : (no_kill : Bool) (t : KnownTable) (r g pages : ℕ) (m n : KnownMachine) (steps : Run) → IsHeld t m.run.past
     → UnlessNoKill no_kill (KillsForFewPages r g pages) (transition t m steps n) → StaysDrained t m n
 unless false t r g pages m n steps held k = few t r g pages m n steps held k
-unless true t r g pages m n steps held k = stays t m n steps k
+unless true t r g pages m n steps held k = stays t m steps n k
 
 pub relieves_drained : (t : KnownTable) (r g pages : ℕ) (m n : KnownMachine) (steps : Run) → IsHeld t m.run.past
     → RelievesLimit r g pages (transition t m steps n) → StaysDrained t m n
