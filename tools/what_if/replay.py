@@ -54,7 +54,7 @@ class Replay:
         self.groups = {path: Group(path) for path in usage.groups}
         self.ups = {path: [self.groups[above] for above in path_up(path)] for path in usage.groups}
         self.places = {}  # of each frame of a file's page: its group, and which of its pages it is
-        self.deaths, self.seconds = [], 0.0
+        self.deaths, self.refused, self.seconds = [], 0, 0.0
         self.reclaims = {}  # of a limit or memory.high and of a group: the first and last second, and the frames
         for answer in session.ask(self.lines_of_new(self.groups.values())):
             if not (answer[0].startswith("group ") or answer[0] == "ok"):
@@ -242,6 +242,7 @@ class Replay:
             self.count(group, 1)
             return int(words[1])
         if words[1] == "15" and self.session.is_no_kill:
+            self.refused += 1
             return None  # the page isn't given, and nobody dies
         if words[1] == "15" and not group.death:
             # Nobody below the limit had anything that a kill could free. A task would die that can't have its page.
