@@ -115,8 +115,10 @@ static void live(void) {
 }
 
 int main(void) {
-    tempolemon_sizes low_high = SIZES, no_frames = SIZES;
+    tempolemon_sizes low_high = SIZES, no_frames = SIZES, great_batch = SIZES, no_kill = SIZES;
     low_high.high = 3;
+    great_batch.reclaim_batch = 65;
+    no_kill.no_kill = 1;
     no_frames.frames = 0;
     expect("an exact buffer", SIZES, "1 mkdir /a\n", 8, TEMPOLEMON_DONE, "group 1\n", 8, 0);
     expect("a longer buffer", SIZES, "1 mkdir /a\n", 64, TEMPOLEMON_DONE, "group 1\n", 8, 0);
@@ -126,6 +128,11 @@ int main(void) {
     expect("a bad line", SIZES, "1 mkdir /a\n3 settle\n", 64, TEMPOLEMON_BAD_LINE, "", 0, 2);
     expect("a low high", low_high, "1 mkdir /a\n", 64, TEMPOLEMON_BAD_CONFIG, "", 0, 0);
     expect("no frames", no_frames, "bad\n", 64, TEMPOLEMON_BAD_CONFIG, "", 0, 0);
+    expect("a great batch of reclaim", great_batch, "1 mkdir /a\n", 64, TEMPOLEMON_BAD_CONFIG, "", 0, 0);
+    great_batch.reclaim_batch = 64;
+    expect("the greatest batch of reclaim", great_batch, "1 mkdir /a\n", 64, TEMPOLEMON_DONE, "group 1\n", 8, 0);
+    expect("nobody is killed", no_kill, "1 mkdir /a\n1 write /a memory.max 4K\n1 alloc /a 0\n1 dirty 0\n1 alloc /a 0\n", 64,
+           TEMPOLEMON_DONE, "group 1\nok\nframe 0\nok\nrefused 15 OverLimit /a\n", 46, 0);
     live();
     return failures != 0;
 }

@@ -1,4 +1,4 @@
-const MOST_CHOICES = 20;
+const MOST_CHOICES = 20, MOST_KILL_ORDER = 3; // above this order nobody is killed
 /**
  * What makes a kill: the limit and the usage under it, how many pages have no room, and how many pages reclaim would free
  * besides, if memory.min spared none, if the victim's units were clean, if all below the limit were, and if these had no pins either. To find
@@ -103,7 +103,7 @@ class Follower {
     Object.assign(this, { line, isEnd: !line, due: null, told: 0, notes: [], details: 0, more: 0, wants: null, note: "", isOpen: false, locks: 0,
       steps: 0, blocked: 0, isBlock: false, behindUngrant: "", over: null, owed: null, drains: [], own: null, took: -1, placed: -1,
       made: -1, isRemoved: false, isSet: false, left: "", got: "", isListed: false, granted: 0, hand: 0, unlisted: 0, passed: 0,
-      givenBack: 0, freed: 0, limited: -1, drainedFor: -1, isDraining: false, killing: null, dying: [], killedWhole: -1, pinsPut: 0 });
+      givenBack: 0, freed: 0, limited: -1, oomAt: -1, drainedFor: -1, isDraining: false, killing: null, dying: [], killedWhole: -1, pinsPut: 0 });
     if (!line) return;
     this.number = line.number;
     const { cpu, verb, words } = line, part = state.parts[cpu], frame = Number(words[0]);
@@ -294,6 +294,14 @@ class Follower {
     this.notes.push(`# victim ${state.path(victim[0])} frames ${victim[1]} of ${next ? 2 + more.length : 1} candidates${next ? `, next ${state.path(next[0])} frames ${next[1]}` : ""}`);
     if (flagged.length) this.notes.push(`# group ${state.path(this.killedWhole)} groups ${this.dying.length}`);
   }
+  /** What is still to be done for a limit without room: a note that it is out of memory, or a kill. */
+  get dueForRoom() {
+    const { state, limited, sizes, line: { order } } = this;
+    if (limited < 0 || sizes.isNoKill || order > MOST_KILL_ORDER || !state.missing(limited, this.over?.pages ?? 0)) return "";
+    if (this.oomAt !== limited) return `note-oom ${limited}`;
+    const isDead = order >= 0 && state.groups[this.group].killed;
+    return !isDead && state.subtree(limited).some(group => !state.groups[group].killed && this.framesOf(group)) ? "a kill" : "";
+  }
   endKill() {
     const { group, returned, pages, pinned } = this.killing;
     this.killing = null;
@@ -412,8 +420,10 @@ class Follower {
     switch (action) {
       case "lock":
         return need(!this.locks++, "the line has the lock once");
-      case "shut":
-        return need(this.isOpen && !state.count("b", cpu), "the CPU isn't settled");
+      case "shut": {
+        const due = this.dueForRoom;
+        return need(!due && this.isOpen && !state.count("b", cpu), due ? `${due} was due` : "the CPU isn't settled");
+      }
       case "freeze":
         return need(a === this.expected && b === 1, `${this.expected < 0 ? "no freeze" : `freeze ${this.expected} 1`} was next`);
       case "unfreeze":
@@ -594,7 +604,7 @@ class Follower {
         break;
       case "note-oom":
         this.notes.push(`# oom ${state.path(a)}`);
-        this.isOom = true;
+        this.oomAt = a;
         break;
       case "kill":
         this.dying.shift();
