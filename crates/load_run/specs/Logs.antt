@@ -21,14 +21,14 @@ abbrev pub batch_text : ℕ → List ℕ
 batch_text batch = if batch == 1 then [] else codes " reclaim-batch " ++ decimal batch
 
 -- the name of a choice that has no value, if the boot makes it
-abbrev pub flag_text : (is_made : Bool) → List ℕ → List ℕ
-flag_text is_made name = if is_made then name else []
+abbrev pub choice_text : (is_made : Bool) → List ℕ → List ℕ
+choice_text is_made name = if is_made then name else []
 
 -- the text with the choices that the boot makes
 abbrev pub with_choices : List ℕ → Choices → List ℕ
 with_choices text choices =
-    ((text ++ batch_text choices.reclaim_batch) ++ flag_text choices.is_no_kill (codes " no-kill"))
-    ++ flag_text choices.is_fair (codes " fair")
+    ((text ++ batch_text choices.reclaim_batch) ++ choice_text choices.is_no_kill (codes " no-kill"))
+    ++ choice_text choices.is_fair (codes " fair")
 
 -- the comment that a log of ours is known by: the sizes of the boot that the zone's line doesn't have, and its choices
 abbrev pub sizes_comment : Config → List ℕ

@@ -9,7 +9,7 @@ ghost use Rattle.step_watch.specs.Watched.{has_whole_log, log_text};
 ghost use Rattle.line_server.specs.Logs.{AddsPart, answer_comments};
 ghost use Rattle.load_run.specs.Ending.{boot_end_text};
 ghost use Rattle.load_run.specs.Logs.{AreLoggedSteps, GrowsBy, LogsAll, LogsEnd, log_head_text};
-ghost use Rattle.load_run.specs.Logs.{batch_text, flag_text, sizes_comment, text_at, text_of_line, with_choices};
+ghost use Rattle.load_run.specs.Logs.{batch_text, choice_text, sizes_comment, text_at, text_of_line, with_choices};
 
 use crate::boot_end::{BootEnd, empty_cpus, write_boot_end};
 use cpu_part::{BootName, Tables};
@@ -49,7 +49,7 @@ fn write_batch(batch: u32, text: &mut String) -> Result<(), AllocError>
 
 // Writes the name of a choice that has no value, if the boot makes it.
 fn write_flag(is_made: bool, name: &str, text: &mut String) -> Result<(), AllocError>
-    ensures { OnOk result (string_bytes text.new ≡ string_bytes text.old ++ flag_text is_made name.now) }
+    ensures { OnOk result (string_bytes text.new ≡ string_bytes text.old ++ choice_text is_made name.now) }
 {
     text.push_str(if is_made { name } else { "" })
 }

@@ -69,9 +69,9 @@ abbrev pub with_turn : KnownMachine → (group : ℕ) → KnownMachine
 with_turn machine group = record machine { last_turn = turn_after machine.last_turn group }
 
 -- the group that had the last turn, before any had one: none if turns don't go round, else the root
-abbrev pub first_turn : (is_fair : Bool) → Option ℕ
-first_turn false = None
-first_turn true = Some 0
+abbrev pub initial_last_turn : (is_fair : Bool) → Option ℕ
+initial_last_turn false = None
+initial_last_turn true = Some 0
 
 -- the machine with details noted from now on, or not
 abbrev pub with_detail_notes : KnownMachine → (is_on : Bool) → KnownMachine
@@ -215,7 +215,7 @@ pub record AreSized (table : KnownTable) (machine : KnownMachine) : Type 0 where
 -- The machine is consistent. Its sizes are those of the table. The free areas are the maximal blocks of the free
 -- frames. Each frame's record agrees with the lists. The charged frames make up units. All lists agree with the links.
 -- The units freed are the last puts, freezes and killed fresh frames together, or the greatest count if that is less.
--- All else is what the machine's past left.
+-- A group has the last turn if and only if the boot chose that turns go round. All else is what the machine's past left.
 pub record IsConsistent (table : KnownTable) (machine : KnownMachine) : Type 0 where
   pub sizes : AreSized table machine
   pub areas : AreMaximalBlocks (free_of machine.frame_states) machine.blocks
@@ -224,6 +224,7 @@ pub record IsConsistent (table : KnownTable) (machine : KnownMachine) : Type 0 w
   pub units : AreUnits machine.frame_states
   pub lists : AllLinked machine.links machine.lists
   pub balances : BalancesCounts machine.counts
+  pub turns : is_some machine.last_turn ≡ table.choices.is_fair
   pub shown : IsShownBy table machine (left_by table machine.run.past)
 
 -- a group of this path was made: it has the least free number, and it isn't killed
@@ -280,5 +281,5 @@ pub record IsFirst (table : KnownTable) (machine : KnownMachine) : Type 0 where
   pub killed : machine.killed ≡ replicate most_groups false
   pub counts : machine.counts ≡ no_counts
   pub notes : machine.notes ≡ no_notes
-  pub last_turn : machine.last_turn ≡ first_turn table.choices.is_fair
+  pub last_turn : machine.last_turn ≡ initial_last_turn table.choices.is_fair
   pub past : machine.run.past ≡ seat_at_first table.table 0

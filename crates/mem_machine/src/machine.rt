@@ -11,7 +11,7 @@ use crate::frame_state::FrameState;
 use crate::owners::StockOwners;
 use crate::proving::prove_sizes;
 use crate::start::{Parts, new_parts};
-use crate::turns::first_turn;
+use crate::turns::initial_last_turn;
 use boot_words::PastSeat;
 use cpu_part::{BootName, Tables};
 use group_charge::charges::Charges;
@@ -106,7 +106,7 @@ impl<N: BootName> Machine<N> {
                 misses: 0,
             },
             notes: parts.notes,
-            last_turn: first_turn(tables),
+            last_turn: initial_last_turn(tables),
             past,
             watch: Watch::off(),
             of: PhantomData,

@@ -1,7 +1,7 @@
 //! The group that had the last turn of a reclaim, if turns go round (`Choices::is_fair`).
 
 ghost use Rattle.std.specs.Prelude.{◌≡◌};
-ghost use Rattle.mem_machine.specs.Machines.{first_turn, turn_after, with_turn};
+ghost use Rattle.mem_machine.specs.Machines.{initial_last_turn, turn_after, with_turn};
 
 use crate::machine::Machine;
 use cpu_part::{BootName, Tables};
@@ -15,8 +15,8 @@ fn is_fair<N: BootName>(tables: &Tables<N>) -> bool
 }
 
 // In a new boot the root counts as the group that had the last turn.
-pub(crate) fn first_turn<N: BootName>(tables: &Tables<N>) -> Option<GroupId>
-    ensures { result ≡ first_turn N.table.choices.is_fair }
+pub(crate) fn initial_last_turn<N: BootName>(tables: &Tables<N>) -> Option<GroupId>
+    ensures { result ≡ initial_last_turn N.table.choices.is_fair }
 {
     if is_fair(tables) {
         Some(GroupId::root())

@@ -10,7 +10,7 @@ use Rattle.group_charge.specs.declared.note.Note.TheVariants.{Asked}
 use Rattle.boot_words.specs.Tables.{KnownTable}
 use Rattle.mem_machine.specs.Machines.{KnownMachine, with_note}
 use Rattle.mem_reclaim.specs.{AfterNote, FreesNothing, Reclaiming, progress, FreesPages, FreesBySteps, Reclaims, ReclaimsAmount, ReclaimsPages}
-use Rattle.mem_reclaim.specs.{ReclaimsRound, ReclaimsRounds, pages_missing, pages_wanted, round_note, wanted_pages, Keeps, MissedAll}
+use Rattle.mem_reclaim.specs.{ReclaimsRound, ReclaimsRounds, pages_missing, pages_wanted, round_note, at_least, Keeps, MissedAll}
 use Rattle.mem_reclaim.specs.Laws.{BatchesOfOneWantWhatIsMissing}
 use Rattle.mem_reclaim.proofs.Wanting.{rested}
 use Rattle.mem_reclaim.proofs.Moving.{moves_after_notes, moves_both, moves_noted, moves_rest}
@@ -86,19 +86,19 @@ pub record AsksEnough (wanted : ℕ → ℕ) : Type 0 where
 pub asks_missing : AsksEnough (λ n. n)
 asks_missing = record { least = λ n. omega arith }
 
-some_wanted : (batch n : ℕ) → wanted_pages batch (suc n) ≡ max batch (suc n)
+some_wanted : (batch n : ℕ) → at_least batch (suc n) ≡ max batch (suc n)
 some_wanted batch n = cond-false (suc n == 0) 0 (max batch (suc n)) (ne_eqb (suc n) 0 (λ none. omega (arith, none)))
 
-batch_least : (batch n : ℕ) → n ≤ wanted_pages batch n
+batch_least : (batch n : ℕ) → n ≤ at_least batch n
 batch_least batch zero = omega arith
 batch_least batch (suc n) = let is = some_wanted batch n in omega (arith, is)
 
 -- it wants at least a batch
-pub asks_batch : (batch : ℕ) → AsksEnough (wanted_pages batch)
+pub asks_batch : (batch : ℕ) → AsksEnough (at_least batch)
 asks_batch batch = record { least = batch_least batch }
 
 -- a batch of one page asks for no page more
-one_each : (n : ℕ) → wanted_pages 1 n ≡ n
+one_each : (n : ℕ) → at_least 1 n ≡ n
 one_each zero = refl
 one_each (suc n) = let is = some_wanted 1 n in omega (arith, is)
 

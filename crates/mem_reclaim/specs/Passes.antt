@@ -88,8 +88,8 @@ abbrev pub with_detail_if : Bool → KnownMachine → Note → KnownMachine
 with_detail_if is_noted machine note = if is_noted then with_detail machine note else machine
 
 -- a turn of the group begins, and then `Does` holds
-abbrev pub AfterTurn : (group : ℕ) → Reclaiming → Reclaiming
-AfterTurn group Does done = Does (progress done.freed (with_turn done.before group) done.steps done.after)
+abbrev pub BeginsTurn : (group : ℕ) → Reclaiming → Reclaiming
+BeginsTurn group Does done = Does (progress done.freed (with_turn done.before group) done.steps done.after)
 
 -- `does want`, unless no page is wanted
 abbrev pub IfWanted : (ℕ → Reclaiming) → ℕ → Reclaiming
@@ -100,7 +100,7 @@ IfWanted does want done = ((want ≡ 0) × FreesNothing done) ⊎ ((1 ≤ want) 
 abbrev pub TakesTurnOf : Pass → (of_min of_low usage group want : ℕ) → Reclaiming
 TakesTurnOf pass of_min of_low usage group want done =
     let wanted = turn_want want usage (spared_by pass of_min of_low) in
-    IfWanted (λ some. AfterTurn group (ReclaimsGroup pass of_min of_low usage group some)) wanted (progress done.freed
+    IfWanted (λ some. BeginsTurn group (ReclaimsGroup pass of_min of_low usage group some)) wanted (progress done.freed
     (with_detail_if (notes_spared pass usage want wanted) done.before (Spared group usage of_min of_low))
     done.steps done.after)
 
@@ -130,15 +130,15 @@ abbrev pub rotated : (last : ℕ) → List ℕ → List ℕ
 rotated last numbers = filter (nat_lt last) numbers ++ filter (λ number. not (nat_lt last number)) numbers
 
 -- the groups in the order of their turns, if this group had the last turn; None if turns don't go round
-abbrev pub in_turn : Option ℕ → List ℕ → List ℕ
-in_turn None groups = groups
-in_turn (Some last) groups = rotated last groups
+abbrev pub turn_order : Option ℕ → List ℕ → List ℕ
+turn_order None groups = groups
+turn_order (Some last) groups = rotated last groups
 
 -- One pass over the groups of the subtree, by ascending number. If turns go round, it begins after the group that had
 -- the last turn when it begins.
 abbrev pub ReclaimsPass : (target : ℕ) → Pass → ℕ → Reclaiming
 ReclaimsPass target pass want done =
-    WhileWanted (TakesTurn pass target) (in_turn done.before.last_turn (subtree_of done.before.ledger.groups target))
+    WhileWanted (TakesTurn pass target) (turn_order done.before.last_turn (subtree_of done.before.ledger.groups target))
     want done
 
 -- the passes of a reclaim: the third only if some group of the tree has memory.low or memory.min

@@ -18,12 +18,12 @@ pages_missing group need limit ledger = current_of ledger group + need - limit
 
 -- how many pages a round wants if this many are missing, and if it has to want at least `batch`: none if none is
 -- missing
-abbrev pub wanted_pages : (batch missing : ℕ) → ℕ
-wanted_pages batch missing = if missing == 0 then 0 else max batch missing
+abbrev pub at_least : (batch missing : ℕ) → ℕ
+at_least batch missing = if missing == 0 then 0 else max batch missing
 
 -- the same, if the pages are missing at a limit
 abbrev pub pages_wanted : (batch group need limit : ℕ) → Ledger → ℕ
-pages_wanted batch group need limit ledger = wanted_pages batch (pages_missing group need limit ledger)
+pages_wanted batch group need limit ledger = at_least batch (pages_missing group need limit ledger)
 
 -- the note of a round of this number for the group, which led from one machine to the other and freed this many pages
 abbrev pub round_note : ℕ → ℕ → ℕ → KnownMachine → KnownMachine → Note

@@ -4,7 +4,7 @@
 ghost use Rattle.mem_reclaim.specs.Laws.{BatchesOfOneWantWhatIsMissing, FlaggedGroupsDieWhole, LoneKillsAreNotedAsMade};
 ghost use Rattle.mem_reclaim.specs.Laws.{MissedUnitsWereTried};
 ghost use Rattle.mem_reclaim.specs.Laws.{OnlyTheLivingDie, ProtectedGroupsHaveNoTurn, RoundsAreNotedAsMade};
-ghost use Rattle.mem_reclaim.specs.Laws.{TheVictimIsOne, VictimsDie};
+ghost use Rattle.mem_reclaim.specs.Laws.{TheVictimIsOne, TurnsAscendUnlessFair, TurnsLeaveOutNoGroup, VictimsDie};
 
 /// If a group in the subtree of the limited group has memory.oom.group on, it is killed as a whole, or no group of its
 /// subtree is killed.
@@ -45,6 +45,16 @@ pub fn rounds_are_noted_as_made()
 /// The note of a victim that dies alone reports the units that the steps of its kill returned.
 pub fn lone_kills_are_noted_as_made()
     ensures { LoneKillsAreNotedAsMade }
+{}
+
+/// Each pass goes over all groups of the subtree, whichever group had the last turn.
+pub fn turns_leave_out_no_group()
+    ensures { TurnsLeaveOutNoGroup }
+{}
+
+/// Turns come by ascending number, unless the boot chose that they go round.
+pub fn turns_ascend_unless_fair()
+    ensures { TurnsAscendUnlessFair }
 {}
 
 /// Rounds that have to want at least one page want just the pages that are missing.

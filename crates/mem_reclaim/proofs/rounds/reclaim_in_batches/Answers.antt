@@ -1,13 +1,13 @@
 use Rattle.std.proofs.Common.{◌≡◌, ◌<◌, ◌^◌, true, sym, ap, ◌∙◌, subst, arith}
 use Rattle.group_tree.specs.Groups.{has_group}
 use Rattle.group_charge.specs.Charges.{Ledger, current_of}
-use Rattle.mem_reclaim.specs.Rounds.{pages_wanted, wanted_pages}
+use Rattle.mem_reclaim.specs.Rounds.{pages_wanted, at_least}
 use Rattle.mem_reclaim.proofs.Rounding.{asks_batch, rounds_none, rounds_enough, rounds_more, rounds_end, rounds_done}
 use Rattle.mem_reclaim.proofs.Grown.{held_after}
 use Rattle.mem_reclaim.proofs.rounds.reclaim_in_batches.Goals as goal
 
 pub loop-round-init : goal.loop-round-init
-loop-round-init g c = rounds_none g.N.BootName.table (wanted_pages c.args.batch) c.args.group c.args.need c.args.limit c.args.machine.now
+loop-round-init g c = rounds_none g.N.BootName.table (at_least c.args.batch) c.args.group c.args.need c.args.limit c.args.machine.now
 
 pub wanted-want-requires : goal.wanted-want-requires
 wanted-want-requires g c =
@@ -17,7 +17,7 @@ wanted-want-requires g c =
 pub returns-then-want-eq0 : goal.returns-then-want-eq0
 returns-then-want-eq0 g c =
     let none : pages_wanted c.args.batch c.args.group c.args.need c.args.limit c.loop-round.machine.ledger ≡ 0 = sym (c.wanted-want.ensures.wanted ∙ ap (pages_wanted c.args.batch c.args.group c.args.need c.args.limit) c.charges.ensures) ∙ c.if-want-eq0.true in
-    let h = rounds_enough g.N.BootName.table (wanted_pages c.args.batch) c.args.group c.args.need c.args.limit c.args.machine.now c.loop-round.round c.loop-round.freed
+    let h = rounds_enough g.N.BootName.table (at_least c.args.batch) c.args.group c.args.need c.args.limit c.args.machine.now c.loop-round.round c.loop-round.freed
     c.loop-round.machine c.loop-round.invariant c.loop-round-test.true (asks_batch c.args.batch) none in
     record { rounds = h.rounds; missed = h.missed; usage = h.usage; keeps = h.keeps }
 
@@ -41,7 +41,7 @@ pub returns-then-pages-eq0 : goal.returns-then-pages-eq0
 returns-then-pages-eq0 g c =
     let e = c.reclaim_round-pages.ensures in
     let wants : c.wanted-want.result ≡ pages_wanted c.args.batch c.args.group c.args.need c.args.limit c.loop-round.machine.ledger = c.wanted-want.ensures.wanted ∙ ap (pages_wanted c.args.batch c.args.group c.args.need c.args.limit) c.charges.ensures in
-    let h = rounds_end g.N.BootName.table (wanted_pages c.args.batch) c.args.group c.args.need c.args.limit c.args.machine.now c.loop-round.round c.loop-round.freed
+    let h = rounds_end g.N.BootName.table (at_least c.args.batch) c.args.group c.args.need c.args.limit c.args.machine.now c.loop-round.round c.loop-round.freed
     c.loop-round.machine c.loop-round.invariant c.loop-round-test.true c.wanted-want.result c.reclaim_round-pages.result.pages c.reclaim_round-pages.new.machine
     c.reclaim_round-pages.result.tried_all (asks_batch c.args.batch) wants c.if-want-eq0.false e.makes e.tried_all e.missed e.usage e.keeps c.if-pages-eq0.true in
     record { rounds = h.rounds; missed = h.missed; usage = h.usage; keeps = h.keeps }
@@ -52,12 +52,12 @@ loop-round-preserved g c =
     let wants : c.wanted-want.result ≡ pages_wanted c.args.batch c.args.group c.args.need c.args.limit c.loop-round.machine.ledger = c.wanted-want.ensures.wanted ∙ ap (pages_wanted c.args.batch c.args.group c.args.need c.args.limit) c.charges.ensures in
     let low : current_of c.loop-round.machine.ledger c.args.group < 2 ^ 32 =
     subst (λ (l : Ledger). current_of l c.args.group < 2 ^ 32) c.charges.ensures c.wanted-want.ensures.few in
-    rounds_more g.N.BootName.table (wanted_pages c.args.batch) c.args.group c.args.need c.args.limit c.args.machine.now c.loop-round.round c.loop-round.freed
+    rounds_more g.N.BootName.table (at_least c.args.batch) c.args.group c.args.need c.args.limit c.args.machine.now c.loop-round.round c.loop-round.freed
     c.loop-round.machine c.loop-round.invariant c.loop-round-test.true c.wanted-want.result c.reclaim_round-pages.result.pages c.reclaim_round-pages.new.machine
     c.reclaim_round-pages.result.tried_all (asks_batch c.args.batch) wants c.if-want-eq0.false e.makes e.tried_all e.missed e.usage e.keeps c.if-pages-eq0.false low
 
 pub returns : goal.returns
 returns g c =
-    let h = rounds_done g.N.BootName.table (wanted_pages c.args.batch) c.args.group c.args.need c.args.limit c.args.machine.now c.loop-round.round c.loop-round.freed
+    let h = rounds_done g.N.BootName.table (at_least c.args.batch) c.args.group c.args.need c.args.limit c.args.machine.now c.loop-round.round c.loop-round.freed
     c.loop-round.machine c.loop-round.invariant c.loop-round-test.false in
     record { rounds = h.rounds; missed = h.missed; usage = h.usage; keeps = h.keeps }
