@@ -1,5 +1,5 @@
 use Rattle.std.proofs.Common.{refl, arith}
-use Rattle.tempolemon_threads.proofs.zones.tempolemon_zone_boot.Goals as goal
+use Rattle.tempolemon_threads.proofs.zones.tempolemon_zone_boot_as.Goals as goal
 
 pub returns-else-start-clause-statuses : goal.returns-else-start-clause-statuses
 returns-else-start-clause-statuses c = (2, omega (arith), refl)
