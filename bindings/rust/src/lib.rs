@@ -131,10 +131,10 @@ impl Zone {
     /// Boots a zone of these sizes, with all its CPUs returned. It takes all memory that the zone ever needs, except for a
     /// small block of each [`Cpu`] and for the texts of [`Cpu::show`], `blocks`, `stock` and `units`.
     ///
-    /// Errors: `BadConfig`, `NoMemory`.
+    /// Errors: `BadVersion`, `BadConfig`, `NoMemory`.
     pub fn boot(sizes: &Sizes) -> Result<Zone, Error> {
         let mut zone = Handle::NONE;
-        done(unsafe { raw::tempolemon_zone_boot(sizes, &mut zone) }).map(|()| Zone(Mutex::new(zone)))
+        done(unsafe { raw::tempolemon_zone_boot_as(raw::VERSION, sizes, &mut zone) }).map(|()| Zone(Mutex::new(zone)))
     }
 
     /// Takes the CPU of this number, from 1, with the list, the stock and the pins that it was returned with.
