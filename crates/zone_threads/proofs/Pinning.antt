@@ -86,7 +86,7 @@ legal_front zone run more legal = subst (IsLegalRun zone) (take_length run more)
 -- a get that is a step of a legal run finds as many references as its answer says
 finds : (t : KnownTable) (frame count : ℕ) (got : Get) (from to : CpuInRun)
     → ((run : Run) → IsLegalRun (zone_of_boot t) run → Allows (state_of (zone_of_boot t) run) from.part.number (does.Get frame) (get_said got)
-        → references_on (zone_of_boot t) run frame ≡ count)
+    → references_on (zone_of_boot t) run frame ≡ count)
     → GrewByAll (own_past from.past) (cpu_makes from.part.number (does.Get frame) (get_said got) ∷ []) (own_past to.past)
     → IsLegalRun (zone_of_boot t) (own_past to.past).seen → FindsReferences t frame count got from to
 finds t frame count got from to counts grew legal =
