@@ -36,7 +36,7 @@ use Rattle.mem_reclaim.specs.Units.{ScansList}
 use Rattle.mem_reclaim.specs.declared.passes.Pass.{Pass}
 use Rattle.mem_reclaim.specs.declared.passes.Pass.TheVariants.{First, Second, Third}
 use Rattle.mem_reclaim.specs.Passes.{AgesAndScans, NotesLowIf, PassesGroup, Reclaims, ReclaimsGroup, ReclaimsPass, TakesTurn, TakesTurnOf, is_first, is_last}
-use Rattle.mem_reclaim.specs.Passes.{BeginsTurn, AreInSubtree, turn_order, members_of, notes_spared, passes_of, rotated, spared_by, subtree_of}
+use Rattle.mem_reclaim.specs.Passes.{BeginsItsTurn, AreInSubtree, turn_order, members_of, notes_spared, passes_of, rotated, spared_by, subtree_of}
 use Rattle.mem_reclaim.specs.Passes.{turn_want, with_detail_if}
 use Rattle.mem_reclaim.specs.Staying.{AreMissedOrKept, Keeps, OnlyLeave, IsMissed, MissedAll, MissedOfGroup, MissedOrKept, UsageFalls}
 use Rattle.mem_reclaim.proofs.Grown.{hold_after, misses_after, parts_after}
@@ -208,7 +208,7 @@ pub record TurnTaken (t : KnownTable) (pass : Pass) (target g want freed : ℕ) 
 
 -- what is done after a turn began, as seen from before it
 after_turn : (t : KnownTable) (x n : KnownMachine) (g freed : ℕ) (Does : Reclaiming) → FreesBySteps t freed (with_turn x g) n Does
-    → FreesBySteps t freed x n (BeginsTurn g Does)
+    → FreesBySteps t freed x n (BeginsItsTurn g Does)
 after_turn t x n g freed Does leads = record {
   steps = leads.steps;
   does = leads.does;
@@ -290,7 +290,7 @@ module _ (t : KnownTable) (pass : Pass) (target g want of_min of_low usage spare
       }
 
   -- the turn has begun
-  turn_begun : wanted ≢ 0 → (freed : ℕ) (n : KnownMachine) → FreesBySteps t freed x n (BeginsTurn g (ReclaimsGroup pass of_min of_low usage g wanted))
+  turn_begun : wanted ≢ 0 → (freed : ℕ) (n : KnownMachine) → FreesBySteps t freed x n (BeginsItsTurn g (ReclaimsGroup pass of_min of_low usage g wanted))
       → Keeps t x n → in_subtree m.ledger.groups g g ≡ true → UsageFalls g freed x n → freed < wanted + 2 ^ 32
       → (is_first pass ≡ false → OnlyLeave x n) → (is_first pass ≡ false → freed < wanted → MissedOfGroup g x n) → TurnTaken t pass target g want freed m n
   turn_begun some freed n leads keeps own falls few leaves missed =
@@ -301,7 +301,7 @@ module _ (t : KnownTable) (pass : Pass) (target g want of_min of_low usage spare
           steps = leads.steps;
           does = as_turn freed leads.steps n (inr (
             omega (arith, is, some),
-            subst (λ (v : ℕ × KnownMachine). BeginsTurn g (ReclaimsGroup pass of_min of_low usage g v.0) (progress freed v.1 leads.steps n)) (λ i. (is i, begins_so i)) leads.does,
+            subst (λ (v : ℕ × KnownMachine). BeginsItsTurn g (ReclaimsGroup pass of_min of_low usage g v.0) (progress freed v.1 leads.steps n)) (λ i. (is i, begins_so i)) leads.does,
           ));
           moves = moves_after_notes t m n freed leads.steps x.notes (subst (λ (k : KnownMachine). FreesPages t k freed leads.steps n) notes_alone leads.moves);
         };

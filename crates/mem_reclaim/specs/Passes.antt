@@ -88,8 +88,8 @@ abbrev pub with_detail_if : Bool → KnownMachine → Note → KnownMachine
 with_detail_if is_noted machine note = if is_noted then with_detail machine note else machine
 
 -- a turn of the group begins, and then `Does` holds
-abbrev pub BeginsTurn : (group : ℕ) → Reclaiming → Reclaiming
-BeginsTurn group Does done = Does (progress done.freed (with_turn done.before group) done.steps done.after)
+abbrev pub BeginsItsTurn : (group : ℕ) → Reclaiming → Reclaiming
+BeginsItsTurn group Does done = Does (progress done.freed (with_turn done.before group) done.steps done.after)
 
 -- `does want`, unless no page is wanted
 abbrev pub IfWanted : (ℕ → Reclaiming) → ℕ → Reclaiming
@@ -100,7 +100,7 @@ IfWanted does want done = ((want ≡ 0) × FreesNothing done) ⊎ ((1 ≤ want) 
 abbrev pub TakesTurnOf : Pass → (of_min of_low usage group want : ℕ) → Reclaiming
 TakesTurnOf pass of_min of_low usage group want done =
     let wanted = turn_want want usage (spared_by pass of_min of_low) in
-    IfWanted (λ some. BeginsTurn group (ReclaimsGroup pass of_min of_low usage group some)) wanted (progress done.freed
+    IfWanted (λ some. BeginsItsTurn group (ReclaimsGroup pass of_min of_low usage group some)) wanted (progress done.freed
     (with_detail_if (notes_spared pass usage want wanted) done.before (Spared group usage of_min of_low))
     done.steps done.after)
 
