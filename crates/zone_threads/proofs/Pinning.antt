@@ -92,12 +92,12 @@ finds : (t : KnownTable) (frame count : ℕ) (got : Get) (from to : CpuInRun)
 finds t frame count got from to counts grew legal =
     let zone = zone_of_boot t in
     let made = cpu_makes from.part.number (does.Get frame) (get_said got) in
-    let run = (own_past from.past).seen ++ grew.1.0.between in
-    let then : (own_past to.past).seen ≡ run ++ made ∷ [] = ap (λ (p : Past). p.seen) grew.1.1 ∙ grew.1.0.seen in
+    let run = (own_past from.past).seen ++ grew.1.between in
+    let then : (own_past to.past).seen ≡ run ++ made ∷ [] = ap (λ (p : Past). p.seen) grew.2 ∙ grew.1.seen in
     let whole = subst (IsLegalRun zone) then legal in
     let begun = legal_front zone run (made ∷ []) whole in record {
       found = run;
-      meanwhile = record { rest = grew.1.0.between; is = refl; others = grew.1.0.others };
+      meanwhile = record { rest = grew.1.between; is = refl; others = grew.1.others };
       then = then;
       legal = begun;
       count_is = counts run begun (allowed_at zone run made [] whole);
@@ -105,12 +105,12 @@ finds t frame count got from to counts grew legal =
 
 missed_by : (t : KnownTable) (frame : ℕ) (got : Get) (from to : CpuInRun) → got ≢ Held → Pins t frame got from to
     → IsLegalRun (zone_of_boot t) (own_past to.past).seen → IsMissedFor t frame got from to
-missed_by t frame Held from to no asks legal = absurd (no refl)
-missed_by t frame Zero from to no asks legal =
+missed_by t frame Held from to apart asks legal = absurd (apart refl)
+missed_by t frame Zero from to apart asks legal =
     finds t frame 0 Zero from to (λ run begun ok. references_kept (zone_of_boot t) run begun from.part.number (does.Get frame) said.Zero ok) asks.run legal
-missed_by t frame Full from to no asks legal =
+missed_by t frame Full from to apart asks legal =
     finds t frame most_references Full from to (λ run begun ok. references_kept (zone_of_boot t) run begun from.part.number (does.Get frame) said.Full ok) asks.run legal
-missed_by t frame (Raced found) from to no asks legal = asks.raced
+missed_by t frame (Raced found) from to apart asks legal = asks.raced
 
 -- the next visit shows that the CPU's past is legal
 pub missed_for : (t : KnownTable) (frame : ℕ) (next : LockedCommand) (given : Outcome) (from : CpuInRun) (missed after : LockedState)
