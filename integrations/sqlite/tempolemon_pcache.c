@@ -77,13 +77,13 @@ struct sqlite3_pcache {
 };
 
 static struct {
-    _Atomic uint32_t budget, clock, births; /* frames that may be used and that were allocated; blocks being allocated */
-    uint32_t frames, serial;                /* of the zone; of the newest cache */
+    uint32_t budget, frames, serial; /* frames that may be used, and of the zone; the number of the newest cache */
     frame_page *pages;
     unsigned char *arena;
     tempolemon_zone zone;
-    tempolemon_cpu cpus[GROUPS]; /* the first is for all that isn't a cache's */
-    pthread_mutex_t mutex;       /* of that, and of the groups but for limit and pinned */
+    tempolemon_cpu cpus[GROUPS];    /* the first is for all that isn't a cache's */
+    _Atomic uint32_t clock, births; /* frames that were allocated, and blocks being allocated */
+    pthread_mutex_t mutex;          /* of the first CPU, and of the groups but for limit and pinned */
     group groups[GROUPS];
 } pool = {.mutex = PTHREAD_MUTEX_INITIALIZER};
 
@@ -133,13 +133,6 @@ static void reclaim(tempolemon_cpu *cpu, uint32_t number, uint64_t frames) {
     tempolemon_result result;
     const uint8_t status = tempolemon_on_reclaim(cpu, number, frames, &result);
     if (status != LESS_RECLAIMED) need(status);
-}
-
-static uint8_t read_text(const char *path, const char *file, char text[TEMPOLEMON_PCACHE_TEXT]) {
-    tempolemon_result result = {0};
-    const uint8_t status = tempolemon_on_read(&pool.cpus[0], path, strlen(path), file, strlen(file), text, 256, &result);
-    if (status == TEMPOLEMON_DONE) text[result.number] = 0;
-    return status;
 }
 
 /* Counts a page as pinned (1), or not any more (-1). What all threads write is written for STEP frames at once. */
@@ -422,9 +415,13 @@ const char *tempolemon_pcache_limit(const char *name, size_t bytes) {
 
 const char *tempolemon_pcache_read(const char *of, const char *file, char text[TEMPOLEMON_PCACHE_TEXT]) {
     char path[64];
+    tempolemon_result result;
+    uint8_t status = TEMPOLEMON_NOT_LIVE;
     snprintf(path, sizeof path, "/db%s%s", *of ? "/" : "", of);
     pthread_mutex_lock(&pool.mutex);
-    const uint8_t status = pool.zone.is_live ? read_text(path, file, text) : TEMPOLEMON_NOT_LIVE;
+    if (pool.zone.is_live) status = tempolemon_on_read(&pool.cpus[0], path, strlen(path), file, strlen(file), text, 256, &result);
     pthread_mutex_unlock(&pool.mutex);
-    return status == TEMPOLEMON_DONE ? NULL : "no group or file of this name";
+    if (status != TEMPOLEMON_DONE) return "no group or file of this name";
+    text[result.number] = 0;
+    return NULL;
 }
