@@ -42,13 +42,7 @@
 
 enum { FRAME = 4096, EXTRA = 256, GROUPS = 64, TOP = 1 };
 enum { LEAST_BUDGET = 256, MOST_BUDGET = 524288, LEAST_LIMIT = 64, NO_LIMIT = INT32_MAX }; /* in frames */
-#ifndef RECLAIM_BATCH
-#define RECLAIM_BATCH 8
-#endif
-#ifndef TOUCH
-#define TOUCH 16
-#endif
-enum { MOST_REFERENCES = 250, STEP = 16 };
+enum { MOST_REFERENCES = 250, STEP = 16, RECLAIM_BATCH = 8 };
 enum { NO_FRAMES = 16, LESS_RECLAIMED = 17 }; /* refusals: of an allocation, of memory.reclaim */
 
 typedef struct {
@@ -71,7 +65,7 @@ struct sqlite3_pcache {
     tempolemon_cpu *cpu;
     group *tenant;
     entry *table; /* by open addressing; key 0 is none. The page is gone if the frame's tag isn't the key's */
-    uint32_t mask, count, number, order, frames, references;
+    uint32_t mask, count, greatest, number, order, frames, references; /* greatest: no key was above it */
     uint32_t size, pinned, counted; /* the cache_size and what is pinned, in pages; what of it its tenant counts, in frames */
     bool is_purgeable;
 };
@@ -214,6 +208,7 @@ static uint64_t tag_at(const sqlite3_pcache *cache, const entry *it) {
 
 static void insert(sqlite3_pcache *cache, entry new) {
     entry *place = find(cache, new.key);
+    if (new.key > cache->greatest) cache->greatest = new.key;
     cache->count += !place->key;
     *place = new;
 }
@@ -280,7 +275,7 @@ static sqlite3_pcache_page *fetch(sqlite3_pcache *cache, unsigned key, int creat
     if (!tag || !pin(cache, it->frame, tag)) return create ? add_page(cache, key, create == 2) : NULL;
     /* it takes the lock to note that a page was used, so that isn't noted again before many frames are allocated */
     const uint32_t now = pool.clock;
-    if (now - page->used >= pool.budget / TOUCH) serve(tempolemon_on_touch, cache->cpu, it->frame), page->used = now;
+    if (now - page->used >= pool.budget / 16) serve(tempolemon_on_touch, cache->cpu, it->frame), page->used = now;
     return &page->page;
 }
 
@@ -299,6 +294,8 @@ static void rekey(sqlite3_pcache *cache, sqlite3_pcache_page *page, unsigned fro
 }
 
 static void truncate_cache(sqlite3_pcache *cache, unsigned limit) {
+    if (limit > cache->greatest) return; /* so it is after most transactions */
+    cache->greatest = limit - 1;
     for (uint32_t at = 0; at <= cache->mask; at++)
         if (cache->table[at].key >= limit) drop(cache, &cache->table[at]);
 }
