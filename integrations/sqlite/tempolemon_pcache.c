@@ -129,7 +129,7 @@ static void reclaim(tempolemon_cpu *cpu, uint32_t number, uint64_t frames) {
     if (status != LESS_RECLAIMED) need(status);
 }
 
-/* Counts a page as pinned (1), or not any more (-1). What all threads write is written for STEP frames at once. */
+/* Counts a page as pinned (1), or not any more (-1). The sums that all threads write may miss up to STEP frames of a cache. */
 static void count_pin(sqlite3_pcache *cache, int pages) {
     cache->pinned += (uint32_t)pages;
     const uint32_t more = cache->pinned * cache->frames - cache->counted;
@@ -139,7 +139,7 @@ static void count_pin(sqlite3_pcache *cache, int pages) {
     pool.groups[TOP].pinned += more;
 }
 
-/* SQLite then writes changed pages to the file before it asks again, so half of each limit is left to others. */
+/* Whether SQLite should write changed pages to the file before it gets another one. So half of each limit is left to others. */
 static bool should_spill(const sqlite3_pcache *cache) {
     const group *tenant = cache->tenant, *top = &pool.groups[TOP];
     if (tenant->pinned > tenant->limit / 2 || top->pinned > top->limit / 2) return true;
