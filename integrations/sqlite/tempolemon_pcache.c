@@ -139,7 +139,7 @@ static void count_pin(sqlite3_pcache *cache, int pages) {
     pool.groups[TOP].pinned += more;
 }
 
-/* Whether SQLite should write changed pages to the file before it gets another one. So half of each limit is left to others. */
+/* Whether SQLite should write changed pages to the file before it gets another one, so that others have half of each limit. */
 static bool should_spill(const sqlite3_pcache *cache) {
     const group *tenant = cache->tenant, *top = &pool.groups[TOP];
     if (tenant->pinned > tenant->limit / 2 || top->pinned > top->limit / 2) return true;
@@ -416,7 +416,8 @@ const char *tempolemon_pcache_read(const char *of, const char *file, char text[T
     uint8_t status = TEMPOLEMON_NOT_LIVE;
     snprintf(path, sizeof path, "/db%s%s", *of ? "/" : "", of);
     pthread_mutex_lock(&pool.mutex);
-    if (pool.zone.is_live) status = tempolemon_on_read(&pool.cpus[0], path, strlen(path), file, strlen(file), text, 256, &result);
+    if (pool.zone.is_live)
+        status = tempolemon_on_read(&pool.cpus[0], path, strlen(path), file, strlen(file), text, 256, &result);
     pthread_mutex_unlock(&pool.mutex);
     if (status != TEMPOLEMON_DONE) return "no group or file of this name";
     text[result.number] = 0;
