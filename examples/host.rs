@@ -5,7 +5,7 @@
 use tempolemon::{Error, Sizes, Zone};
 
 fn main() -> Result<(), Error> {
-    let zone = Zone::boot(&Sizes { frames: 64, cpus: 2, batch: 4, high: 8, stock: 4 })?;
+    let zone = Zone::boot(&Sizes { frames: 64, cpus: 2, batch: 4, high: 8, stock: 4, ..Sizes::default() })?;
     let cpu = zone.take(1)?;
     let web = cpu.mkdir("/web")?;
     cpu.write("/web", "memory.max", "128K")?;

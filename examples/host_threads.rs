@@ -47,7 +47,7 @@ fn work(cpu: Cpu, group: Group, shelf: &[AtomicU32]) -> Result<u64, Error> {
 
 fn main() -> Result<(), Error> {
     let threads = env::args().nth(1).map_or(4, |word| word.parse().expect("a number of threads"));
-    let zone = Zone::boot(&Sizes { frames: 4096, cpus: threads, batch: 32, high: 128, stock: 32 })?;
+    let zone = Zone::boot(&Sizes { frames: 4096, cpus: threads, batch: 32, high: 128, stock: 32, ..Sizes::default() })?;
     let shelf: Vec<AtomicU32> = (0..64).map(|_| AtomicU32::new(0)).collect();
     let read = thread::scope(|scope| {
         let mut running = Vec::new();

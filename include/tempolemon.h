@@ -23,6 +23,16 @@
 extern "C" {
 #endif
 
+/* TEMPOLEMON_VERSION counts the forms of both headers. It changes if a struct, a number or a call changes so that a host
+ * has to be compiled anew. The inline calls, which take sizes, pass it to the exported call of their name with _as. If the
+ * archive was made for another version, that call returns BAD_VERSION before it reads or writes what a pointer leads to.
+ * A host that doesn't include this header calls _as itself, with the version that it was written for.
+ */
+#define TEMPOLEMON_VERSION 1
+
+/* The version of the headers that the archive was made for. */
+uint32_t tempolemon_version(void);
+
 /* What a call returns: 0, the number that docs/MANUAL.md gives a refusal, 1 to 22, or one above 100. */
 enum {
     TEMPOLEMON_DONE = 0,           /* the call did what it is for */
@@ -36,6 +46,7 @@ enum {
     TEMPOLEMON_BAD_CPU = 106,      /* the zone has no CPU of this number */
     TEMPOLEMON_BAD_FRAME = 107,    /* the zone has no frame of this number */
     TEMPOLEMON_BAD_GROUP = 108,    /* no group has this number */
+    TEMPOLEMON_BAD_VERSION = 115,  /* the host was compiled with the headers of another version */
 };
 
 /* The kinds of what a typed call gives. Each is that of the answer to a script's line. */
@@ -72,6 +83,9 @@ typedef struct {
     uint32_t batch;  /* frames by which a CPU's list is refilled or cut: 1 to 64 */
     uint32_t high;   /* frames at which a CPU's list is cut: batch to 256 */
     uint32_t stock;  /* pages that a CPU prepays at once: 1 to 64 */
+    uint32_t reclaim_batch; /* pages that a round of reclaim for a charge wants at least: 0 to 64; 0 is 1 */
+    uint32_t no_kill; /* 0, or 1: nobody is killed, and a charge without room is refused with 15 */
+    uint32_t fair; /* 0, or 1: each pass of reclaim begins after the group that had the last turn, and goes round */
 } tempolemon_sizes;
 
 /* Boots a zone, replays a script on it, and ends the boot. The answers are those of `memcg replay`, byte for byte.
@@ -82,17 +96,24 @@ typedef struct {
  * point to anything then except null.
  *
  *   DONE          the answers are the first *written bytes of the buffer; the rest of it is unchanged
+ *   BAD_VERSION   the archive is of another version; this is judged first, and *written and *first_bad are unchanged
  *   BAD_CONFIG    a size is out of its range; this is judged before the script
  *   BAD_LINE      *first_bad is the number of the first bad line, counted from 1
  *   SMALL_BUFFER  the answers have *written bytes, which is more than `room`: call again with so many
  *   NO_MEMORY     memory ran out
  *
- * Unless the status is DONE the buffer is unchanged. *written is 0 for the other three, and *first_bad is 0 unless the
- * status is BAD_LINE. Nothing of the boot stays, and all its memory is freed.
+ * Unless the status is DONE the buffer is unchanged. *written is 0 for BAD_CONFIG, BAD_LINE and NO_MEMORY, and *first_bad
+ * is 0 for DONE, BAD_CONFIG, SMALL_BUFFER and NO_MEMORY. Nothing of the boot stays, and all its memory is freed.
  */
-uint8_t tempolemon_replay(const tempolemon_sizes *sizes, bool is_explained, bool is_audited,
-                          const uint8_t *script, size_t length, uint8_t *answers, size_t room,
-                          size_t *written, size_t *first_bad);
+uint8_t tempolemon_replay_as(uint32_t version, const tempolemon_sizes *sizes, bool is_explained, bool is_audited,
+                             const uint8_t *script, size_t length, uint8_t *answers, size_t room,
+                             size_t *written, size_t *first_bad);
+static inline uint8_t tempolemon_replay(const tempolemon_sizes *sizes, bool is_explained, bool is_audited,
+                                        const uint8_t *script, size_t length, uint8_t *answers, size_t room,
+                                        size_t *written, size_t *first_bad) {
+    return tempolemon_replay_as(TEMPOLEMON_VERSION, sizes, is_explained, is_audited, script, length, answers, room,
+                                written, first_bad);
+}
 
 /* A handle to a boot that lives between calls. All bytes 0, `{0}`, is none; a host begins with that, and writes nothing
  * into it afterwards. Don't copy it: one boot has one handle. A handle may pass from thread to thread, but is used by one
@@ -123,15 +144,19 @@ typedef struct {
 
 /* Boots a zone of these sizes behind a handle that has none.
  *
- *   DONE        the handle has a boot; tempolemon_end frees it
- *   IS_LIVE     the handle had a boot, and has it still
- *   BAD_CONFIG  a size is out of its range
- *   NO_MEMORY   memory ran out
+ *   DONE         the handle has a boot; tempolemon_end frees it
+ *   BAD_VERSION  the archive is of another version; this is judged first
+ *   IS_LIVE      the handle had a boot, and has it still
+ *   BAD_CONFIG   a size is out of its range
+ *   NO_MEMORY    memory ran out
  *
  * Unless the status is DONE, the handle is unchanged and nothing of the boot stays. A boot takes all memory that it ever
  * needs, except for the lines of tempolemon_command and their answers.
  */
-uint8_t tempolemon_boot(const tempolemon_sizes *sizes, tempolemon_handle *handle);
+uint8_t tempolemon_boot_as(uint32_t version, const tempolemon_sizes *sizes, tempolemon_handle *handle);
+static inline uint8_t tempolemon_boot(const tempolemon_sizes *sizes, tempolemon_handle *handle) {
+    return tempolemon_boot_as(TEMPOLEMON_VERSION, sizes, handle);
+}
 
 /* Ends the boot and frees its memory. Pins that are still held are put first.
  *

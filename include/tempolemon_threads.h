@@ -59,8 +59,12 @@ typedef struct {
 /* ---- The exported calls. They never wait. */
 
 /* Boots a zone of these sizes, with all its CPUs returned. It takes all memory that the zone ever needs, except where
- * another call says so: DONE, IS_LIVE, BAD_CONFIG, NO_MEMORY. Unless it is DONE, nothing of the zone stays. */
-uint8_t tempolemon_zone_boot(const tempolemon_sizes *sizes, tempolemon_zone *zone);
+ * another call says so: DONE, BAD_VERSION, which is judged first, IS_LIVE, BAD_CONFIG, NO_MEMORY. Unless it is DONE,
+ * nothing of the zone stays. TEMPOLEMON_VERSION is that of tempolemon.h, and counts for both headers. */
+uint8_t tempolemon_zone_boot_as(uint32_t version, const tempolemon_sizes *sizes, tempolemon_zone *zone);
+static inline uint8_t tempolemon_zone_boot(const tempolemon_sizes *sizes, tempolemon_zone *zone) {
+    return tempolemon_zone_boot_as(TEMPOLEMON_VERSION, sizes, zone);
+}
 
 /* Ends the zone, if all its CPUs are returned, and frees its memory. Pins that are still held are put first.
  *

@@ -70,6 +70,7 @@ class Calls(unittest.TestCase):
     def test_refusals_are_exceptions(self):
         cpu = self.cpu
         self.refuses(tempolemon.BadConfig, Zone, 64, 2, 4, 1)
+        self.refuses(tempolemon.BadConfig, lambda: Zone(64, 2, reclaim_batch=65))
         self.refuses(tempolemon.CpuOut, self.zone.take, 1)
         self.refuses(tempolemon.BadCpu, self.zone.take, 3)
         self.refuses(tempolemon.NoParent, cpu.mkdir, "/a/b")

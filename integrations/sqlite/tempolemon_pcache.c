@@ -10,9 +10,8 @@
  * A fresh frame can't be referenced: it gets its tag before it is settled. A block can be, so `births` says that one may lack
  * its tag: then the hit asks for the owner.
  *
- * If a limit has no room even after reclaim, the library kills. So each pin is counted before, and is refused if more than the
- * limit less SLACK would be pinned. SLACK is for references of hits on frames that are another tenant's by now. A cache's first
- * BASE frames are counted when it is made, so that most hits leave alone what all threads write.
+ * Which page is replaced is the library's choice. It kills nobody: an allocation for which a limit has no room is refused. So
+ * pins are counted only for SQLite, which is asked to write changed pages to the file once half of a limit is pinned.
  */
 #define _GNU_SOURCE
 #include "tempolemon_pcache.h"
@@ -43,21 +42,20 @@
 
 enum { FRAME = 4096, EXTRA = 256, GROUPS = 64, TOP = 1 };
 enum { LEAST_BUDGET = 256, MOST_BUDGET = 524288, LEAST_LIMIT = 64, NO_LIMIT = INT32_MAX }; /* in frames */
-enum { MOST_REFERENCES = 250, SLACK = 32, BASE = 8, ROUND = 16, SAMPLES = 16 };
+enum { MOST_REFERENCES = 250, STEP = 16, RECLAIM_BATCH = 8 };
 enum { NO_FRAMES = 16, LESS_RECLAIMED = 17 }; /* refusals: of an allocation, of memory.reclaim */
 
 typedef struct {
     sqlite3_pcache_page page; /* first, since SQLite's pointers lead here */
     _Atomic uint64_t tag;     /* the cache's group, the key (32 bits), is it pinned (1 bit); 0 if the frame is nobody's */
-    _Atomic uint32_t used;    /* the clock when its last use was noted */
+    uint32_t used;            /* the clock when its last use was noted */
     bool is_marked;           /* pinned by its mark */
     uint64_t extra[EXTRA / 8];
 } frame_page;
 
-typedef struct group {
+typedef struct {
     char path[80];
-    struct group *parent;
-    uint32_t caches;                /* how many a tenant has */
+    uint32_t caches;                /* in it and below it */
     _Atomic uint32_t limit, pinned; /* of a tenant and of /db, in frames */
 } group;
 
@@ -67,19 +65,19 @@ struct sqlite3_pcache {
     tempolemon_cpu *cpu;
     group *tenant;
     entry *table; /* by open addressing; key 0 is none. The page is gone if the frame's tag isn't the key's */
-    uint32_t mask, count, number, order, frames, references;
-    uint32_t size, pinned; /* in pages: the cache_size, and what is pinned */
+    uint32_t mask, count, greatest, number, order, frames, references; /* greatest: no key was above it */
+    uint32_t size, pinned, counted; /* the cache_size and what is pinned, in pages; what of it its tenant counts, in frames */
     bool is_purgeable;
 };
 
 static struct {
-    _Atomic uint32_t budget, clock, births; /* frames that may be used and that were allocated; blocks being allocated */
-    uint32_t frames, serial;                /* of the zone; of the newest cache */
+    uint32_t budget, frames, serial; /* frames that may be used, and of the zone; the number of the newest cache */
     frame_page *pages;
     unsigned char *arena;
     tempolemon_zone zone;
-    tempolemon_cpu cpus[GROUPS]; /* the first is for all that isn't a cache's */
-    pthread_mutex_t mutex;       /* of that, and of the groups but for limit and pinned */
+    tempolemon_cpu cpus[GROUPS];    /* the first is for all that isn't a cache's */
+    _Atomic uint32_t clock, births; /* frames that were allocated, and blocks being allocated */
+    pthread_mutex_t mutex;          /* of the first CPU, and of the groups but for limit and pinned */
     group groups[GROUPS];
 } pool = {.mutex = PTHREAD_MUTEX_INITIALIZER};
 
@@ -99,56 +97,53 @@ static tempolemon_result serve(uint8_t (*call)(tempolemon_cpu *, uint32_t, tempo
 }
 
 /* Finds a group or makes it, under the pool's mutex: its number, or 0 if all are taken. */
-static uint32_t group_at(const char *path, group *parent) {
+static uint32_t group_at(const char *path) {
     tempolemon_result result;
     for (uint32_t at = 1; at < GROUPS; at++)
         if (!strcmp(pool.groups[at].path, path)) return at;
     if (tempolemon_on_mkdir(&pool.cpus[0], path, strlen(path), &result) != TEMPOLEMON_DONE) return 0;
     group *made = &pool.groups[result.number];
-    *made = (group){.parent = parent, .limit = NO_LIMIT};
+    *made = (group){.limit = NO_LIMIT};
     snprintf(made->path, sizeof made->path, "%s", path);
     return (uint32_t)result.number;
 }
 
-static void write_frames(tempolemon_cpu *cpu, uint32_t number, const char *file, uint64_t frames) {
+/* Notes that a cache was made (1) or is gone (-1), under the pool's mutex. An eighth of the budget is protected, and all caches
+ * have equal shares of it. Else a scan would take from databases that are seldom used what they use most. */
+static void count_cache(uint32_t number, group *tenant, int caches) {
+    group *const counts[] = {&pool.groups[number], tenant, &pool.groups[TOP]};
+    for (int at = 0; at < 3; at++) counts[at]->caches += (uint32_t)caches;
+    for (const group *it = &pool.groups[TOP + 1]; it < &pool.groups[GROUPS]; it++) {
+        tempolemon_result result;
+        char value[24];
+        if (!it->caches) continue;
+        snprintf(value, sizeof value, "%uK", pool.budget / 2 / pool.groups[TOP].caches * it->caches);
+        need(tempolemon_on_write(&pool.cpus[0], it->path, strlen(it->path), "memory.low", 10, value, strlen(value), &result));
+    }
+}
+
+/* Reclaims so many frames from a group, or what can be reclaimed. */
+static void reclaim(tempolemon_cpu *cpu, uint32_t number, uint64_t frames) {
     tempolemon_result result;
-    char value[24];
-    const char *path = pool.groups[number].path;
-    const int length = snprintf(value, sizeof value, "%lluK", 4 * (unsigned long long)frames);
-    const uint8_t status = tempolemon_on_write(cpu, path, strlen(path), file, strlen(file), value, (size_t)length, &result);
+    const uint8_t status = tempolemon_on_reclaim(cpu, number, frames, &result);
     if (status != LESS_RECLAIMED) need(status);
 }
 
-static uint8_t read_text(const char *path, const char *file, char text[TEMPOLEMON_PCACHE_TEXT]) {
-    tempolemon_result result = {0};
-    const uint8_t status = tempolemon_on_read(&pool.cpus[0], path, strlen(path), file, strlen(file), text, 256, &result);
-    if (status == TEMPOLEMON_DONE) text[result.number] = 0;
-    return status;
+/* Counts a page as pinned (1), or not any more (-1). The sums that all threads write may miss up to STEP frames of a cache. */
+static void count_pin(sqlite3_pcache *cache, int pages) {
+    cache->pinned += (uint32_t)pages;
+    const uint32_t more = cache->pinned * cache->frames - cache->counted;
+    if (more + STEP < 2 * STEP) return;
+    cache->counted += more;
+    cache->tenant->pinned += more;
+    pool.groups[TOP].pinned += more;
 }
 
-/* Counts frames as pinned, or refuses. Unless it is urgent, half of each limit is left for others. A limit is read after the
- * frames are counted, and lowered before the count is read: so one of both sees the other. */
-static bool count(group *tenant, uint32_t frames, bool is_urgent) {
-    group *const both[] = {tenant, &pool.groups[TOP]};
-    for (int at = 0; at < 2; at++) {
-        const uint32_t sum = (both[at]->pinned += frames), limit = both[at]->limit;
-        if (sum <= (is_urgent ? limit - SLACK : limit / 2)) continue;
-        for (; at >= 0; at--) both[at]->pinned -= frames;
-        return false;
-    }
-    return true;
-}
-static void uncount(group *tenant, uint32_t frames) {
-    tenant->pinned -= frames;
-    pool.groups[TOP].pinned -= frames;
-}
-static bool count_pin(sqlite3_pcache *cache, bool is_urgent) {
-    if (++cache->pinned * cache->frames <= BASE || count(cache->tenant, cache->frames, is_urgent)) return true;
-    cache->pinned--;
-    return false;
-}
-static void uncount_pin(sqlite3_pcache *cache) {
-    if (cache->pinned-- * cache->frames > BASE) uncount(cache->tenant, cache->frames);
+/* Whether SQLite should write changed pages to the file before it gets another one, so that others have half of each limit. */
+static bool should_spill(const sqlite3_pcache *cache) {
+    const group *tenant = cache->tenant, *top = &pool.groups[TOP];
+    if (tenant->pinned > tenant->limit / 2 || top->pinned > top->limit / 2) return true;
+    return cache->is_purgeable && cache->pinned + cache->pinned / 8 >= cache->size;
 }
 
 static uint64_t tag_of(const sqlite3_pcache *cache, uint32_t key) { return (uint64_t)cache->number << 33 | (uint64_t)key << 1; }
@@ -166,15 +161,16 @@ static void let_go(tempolemon_cpu *cpu, uint32_t frame) {
     if (serve(tempolemon_on_put, cpu, frame).kind == TEMPOLEMON_LAST) need(tempolemon_on_settle(cpu, &result));
 }
 
-/* Counts and pins a page that isn't pinned. If that can't be done, the cache has lost it. */
+/* Pins a page that isn't pinned. If that can't be done, the cache has lost it. */
 static bool pin(sqlite3_pcache *cache, uint32_t frame, uint64_t tag) {
     frame_page *page = &pool.pages[frame];
-    const bool is_counted = count_pin(cache, true), is_held = is_counted && hold(cache->cpu, frame);
+    const bool is_held = hold(cache->cpu, frame);
     bool is_pinned = is_held && retag(frame, tag, tag | 1);
     /* a block sets its tag before it lowers `births`, so the tag is read again after that */
     if (is_pinned && pool.births) is_pinned = serve(tempolemon_on_owner, cache->cpu, frame).number == cache->number;
     if (is_pinned && page->tag == (tag | 1)) {
         OPEN(page, cache->frames);
+        count_pin(cache, 1);
         page->is_marked = cache->references == MOST_REFERENCES;
         cache->references += !page->is_marked;
         if (page->is_marked) serve(tempolemon_on_dirty, cache->cpu, frame), let_go(cache->cpu, frame);
@@ -182,7 +178,6 @@ static bool pin(sqlite3_pcache *cache, uint32_t frame, uint64_t tag) {
     }
     (void)(retag(frame, tag, 0) || retag(frame, tag | 1, 0));
     if (is_held) let_go(cache->cpu, frame);
-    if (is_counted) uncount_pin(cache);
     return false;
 }
 
@@ -195,35 +190,7 @@ static void end_pin(sqlite3_pcache *cache, uint32_t frame, uint64_t tag) {
     else if (is_marked) serve(tempolemon_on_clean, cache->cpu, frame);
     if (!is_marked) let_go(cache->cpu, frame);
     cache->references -= !is_marked;
-    uncount_pin(cache);
-}
-
-/* Makes room before a limit is reached. Reclaim takes the groups by number, so at a limit that caches share one of them would
- * always pay. So pages of the cache are reclaimed that has the least recently used page of some that are looked at. */
-static void see_to(const group *of) {
-    static uint64_t seed = 1;
-    char text[TEMPOLEMON_PCACHE_TEXT];
-    need(read_text(of->path, "memory.current", text));
-    const uint64_t wanted = strtoull(text, NULL, 10) / FRAME + 2 * ROUND;
-    uint32_t victim = 0, age = 0;
-    for (int tries = 0, seen = 0; wanted > of->limit && seen < SAMPLES && tries < 8 * SAMPLES; tries++) {
-        seed = seed * 6364136223846793005u + 1442695040888963407u;
-        const uint32_t frame = (uint32_t)((seed >> 32) * pool.frames >> 32), idle = pool.clock - pool.pages[frame].used;
-        const uint64_t tag = pool.pages[frame].tag;
-        const uint32_t owner = (uint32_t)(tag >> 33);
-        if (!tag || tag & 1 || (of != &pool.groups[TOP] && of != pool.groups[owner].parent) || (seen++, idle < age)) continue;
-        if (hold(&pool.cpus[0], frame)) let_go(&pool.cpus[0], frame), age = idle, victim = owner;
-        else retag(frame, tag, 0); /* it was reclaimed */
-    }
-    if (victim) write_frames(&pool.cpus[0], victim, "memory.reclaim", wanted - of->limit);
-}
-
-/* Sees to the limits, unless another thread does so already. */
-static void see_to_limits(const sqlite3_pcache *cache) {
-    if (pthread_mutex_trylock(&pool.mutex)) return;
-    see_to(&pool.groups[TOP]);
-    if (cache->tenant->caches > 1 && cache->tenant->limit < NO_LIMIT) see_to(cache->tenant);
-    pthread_mutex_unlock(&pool.mutex);
+    count_pin(cache, -1);
 }
 
 /* The entry of this key, or the free one where it belongs. */
@@ -241,6 +208,7 @@ static uint64_t tag_at(const sqlite3_pcache *cache, const entry *it) {
 
 static void insert(sqlite3_pcache *cache, entry new) {
     entry *place = find(cache, new.key);
+    if (new.key > cache->greatest) cache->greatest = new.key;
     cache->count += !place->key;
     *place = new;
 }
@@ -268,13 +236,17 @@ static void drop(sqlite3_pcache *cache, const entry *it) {
 }
 
 /* Allocates a unit with this tag, which is pinned by its mark: its page, or NULL. */
-static frame_page *allocate(const sqlite3_pcache *cache, uint64_t tag) {
+static frame_page *allocate(const sqlite3_pcache *cache, uint64_t tag, bool is_urgent) {
     tempolemon_result result;
     if (cache->order) pool.births++;
     const uint8_t status = cache->order ? tempolemon_on_alloc_dirty(cache->cpu, cache->number, cache->order, &result)
                                         : tempolemon_on_alloc(cache->cpu, cache->number, 0, &result);
     if (status == TEMPOLEMON_DONE) pool.pages[result.number].tag = tag;
     if (cache->order) pool.births--;
+    if (status == NO_FRAMES && is_urgent) { /* perhaps no block is free before all clean pages are reclaimed */
+        reclaim(cache->cpu, TOP, pool.frames);
+        return allocate(cache, tag, false);
+    }
     if (status == TEMPOLEMON_OVER_LIMIT || status == NO_FRAMES) return NULL;
     need(status);
     if (!cache->order) serve(tempolemon_on_dirty, cache->cpu, (uint32_t)result.number);
@@ -283,21 +255,14 @@ static frame_page *allocate(const sqlite3_pcache *cache, uint64_t tag) {
 
 /* A page that isn't in the cache, or NULL. */
 static sqlite3_pcache_page *add_page(sqlite3_pcache *cache, uint32_t key, bool is_urgent) {
-    const uint64_t tag = tag_of(cache, key) | 1;
-    if (!is_urgent && cache->is_purgeable && cache->pinned + cache->pinned / 8 >= cache->size) return NULL;
-    if (!make_room(cache) || !count_pin(cache, is_urgent)) return NULL;
-    const uint32_t now = pool.clock += cache->frames;
-    if (now / ROUND != (now - cache->frames) / ROUND) see_to_limits(cache);
-    frame_page *page = allocate(cache, tag);
-    if (!page && is_urgent) { /* perhaps no block is free before all clean pages are reclaimed */
-        write_frames(cache->cpu, TOP, "memory.reclaim", pool.frames);
-        page = allocate(cache, tag);
-    }
-    if (!page) return uncount_pin(cache), NULL;
+    if ((!is_urgent && should_spill(cache)) || !make_room(cache)) return NULL;
+    frame_page *page = allocate(cache, tag_of(cache, key) | 1, is_urgent);
+    if (!page) return NULL;
     OPEN(page, cache->frames);
+    count_pin(cache, 1);
     insert(cache, (entry){key, (uint32_t)(page - pool.pages)});
     page->is_marked = true;
-    page->used = now;
+    page->used = pool.clock += cache->frames;
     memset(page->extra, 0, EXTRA);
     return &page->page;
 }
@@ -329,17 +294,21 @@ static void rekey(sqlite3_pcache *cache, sqlite3_pcache_page *page, unsigned fro
 }
 
 static void truncate_cache(sqlite3_pcache *cache, unsigned limit) {
+    if (limit > cache->greatest) return; /* so it is after most transactions */
+    cache->greatest = limit - 1;
     for (uint32_t at = 0; at <= cache->mask; at++)
         if (cache->table[at].key >= limit) drop(cache, &cache->table[at]);
 }
 
 static void set_size(sqlite3_pcache *cache, int pages) {
     cache->size = pages > 0 ? (uint32_t)pages : 0;
-    if (cache->is_purgeable) write_frames(cache->cpu, cache->number, "memory.high", (uint64_t)cache->size * cache->frames);
+    tempolemon_result result;
+    const uint64_t high = (uint64_t)cache->size * cache->frames;
+    if (cache->is_purgeable) need(tempolemon_on_set_high(cache->cpu, cache->number, high, &result));
 }
 
 static int count_pages(sqlite3_pcache *cache) { return (int)cache->count; }
-static void shrink(sqlite3_pcache *cache) { write_frames(cache->cpu, cache->number, "memory.reclaim", pool.frames); }
+static void shrink(sqlite3_pcache *cache) { reclaim(cache->cpu, cache->number, pool.frames); }
 
 static sqlite3_pcache *create(int page_size, int extra, int is_purgeable) {
     sqlite3_pcache *cache = calloc(1, sizeof *cache);
@@ -347,11 +316,8 @@ static sqlite3_pcache *create(int page_size, int extra, int is_purgeable) {
     char path[80];
     pthread_mutex_lock(&pool.mutex);
     snprintf(path, sizeof path, "%s/c%u", tenant_path, ++pool.serial);
-    const uint32_t tenant = cache && table && extra <= EXTRA ? group_at(tenant_path, &pool.groups[TOP]) : 0;
-    const bool is_counted = tenant && count(&pool.groups[tenant], BASE, true);
-    const uint32_t number = is_counted ? group_at(path, &pool.groups[tenant]) : 0;
-    pool.groups[tenant].caches += number != 0;
-    if (is_counted && !number) uncount(&pool.groups[tenant], BASE);
+    const uint32_t tenant = cache && table && extra <= EXTRA ? group_at(tenant_path) : 0, number = tenant ? group_at(path) : 0;
+    if (number) count_cache(number, &pool.groups[tenant], 1);
     pthread_mutex_unlock(&pool.mutex);
     if (!number) return free(table), free(cache), NULL;
     *cache = (sqlite3_pcache){&pool.cpus[number], &pool.groups[tenant], table, .mask = 63, .number = number, .frames = 1};
@@ -363,13 +329,14 @@ static sqlite3_pcache *create(int page_size, int extra, int is_purgeable) {
 static void destroy(sqlite3_pcache *cache) {
     tempolemon_result result;
     truncate_cache(cache, 1);
-    uncount(cache->tenant, BASE);
+    cache->tenant->pinned -= cache->counted;
+    pool.groups[TOP].pinned -= cache->counted;
     pthread_mutex_lock(&pool.mutex);
     char *path = pool.groups[cache->number].path;
     while (tempolemon_on_rmdir(&pool.cpus[0], path, strlen(path), &result) != TEMPOLEMON_DONE)
         sched_yield(); /* another cache's hit has a reference at the moment */
     *path = 0;
-    cache->tenant->caches--;
+    count_cache(cache->number, cache->tenant, -1);
     pthread_mutex_unlock(&pool.mutex);
     free(cache->table);
     free(cache);
@@ -377,9 +344,11 @@ static void destroy(sqlite3_pcache *cache) {
 
 static int start(void *unused) {
     (void)unused;
+    tempolemon_result result;
     pool.frames = 2 * pool.budget;
     const uint32_t wanted = pool.budget / 4096, batch = wanted < 1 ? 1 : wanted > 32 ? 32 : wanted;
-    const tempolemon_sizes sizes = {.frames = pool.frames, .cpus = GROUPS, .batch = batch, .high = 2 * batch, .stock = batch};
+    const tempolemon_sizes sizes = {.frames = pool.frames, .cpus = GROUPS, .batch = batch, .high = 2 * batch, .stock = batch,
+                                    .reclaim_batch = RECLAIM_BATCH, .no_kill = 1, .fair = 1};
     if (tempolemon_zone_boot(&sizes, &pool.zone) != TEMPOLEMON_DONE) return SQLITE_NOMEM;
     const size_t size = FRAME + (size_t)pool.frames * (FRAME + sizeof *pool.pages); /* SQLite may read beyond a page */
     pool.arena = mmap(NULL, size, PROT_READ | PROT_WRITE, MAP_PRIVATE | MAP_ANONYMOUS | MAP_NORESERVE, -1, 0);
@@ -390,9 +359,9 @@ static int start(void *unused) {
         SHUT(&pool.pages[at], 1u);
     }
     for (uint32_t at = 0; at < GROUPS; at++) need(tempolemon_take(&pool.zone, at + 1, &pool.cpus[at]));
-    (void)group_at("/db", NULL); /* TOP, the first */
+    (void)group_at("/db"); /* TOP, the first */
     pool.groups[TOP].limit = pool.budget;
-    write_frames(&pool.cpus[0], TOP, "memory.max", pool.budget);
+    need(tempolemon_on_set_max(&pool.cpus[0], TOP, pool.budget, &result));
     return SQLITE_OK;
 }
 
@@ -418,16 +387,17 @@ const char *tempolemon_pcache_install(size_t bytes) {
 /* Finds or makes a tenant. Sets its limit; or if that is 0, this thread opens databases for it. */
 static const char *set_tenant(const char *name, uint32_t limit) {
     char path[64];
+    tempolemon_result result;
     if (!*name || strlen(name) > 31 || strchr(name, '/')) return "a tenant's name has 1 to 31 bytes without /";
     if (sqlite3_initialize() != SQLITE_OK || !pool.zone.is_live) return "this page cache isn't installed";
     snprintf(path, sizeof path, "/db/%s", name);
     pthread_mutex_lock(&pool.mutex);
-    const uint32_t number = group_at(path, &pool.groups[TOP]), before = pool.groups[number].limit;
+    const uint32_t number = group_at(path);
     const char *why = number ? NULL : "no group of this name can be made";
-    if (number && limit) {
-        pool.groups[number].limit = limit; /* more isn't pinned from now on */
-        if (pool.groups[number].pinned + SLACK <= limit) write_frames(&pool.cpus[0], number, "memory.max", limit);
-        else why = "its databases have pinned more than that", pool.groups[number].limit = before;
+    if (number && limit && pool.groups[number].pinned > limit) why = "its databases have pinned more than that";
+    if (!why && limit) {
+        pool.groups[number].limit = limit;
+        need(tempolemon_on_set_max(&pool.cpus[0], number, limit, &result));
     }
     if (number && !limit) strcpy(tenant_path, path);
     pthread_mutex_unlock(&pool.mutex);
@@ -442,9 +412,14 @@ const char *tempolemon_pcache_limit(const char *name, size_t bytes) {
 
 const char *tempolemon_pcache_read(const char *of, const char *file, char text[TEMPOLEMON_PCACHE_TEXT]) {
     char path[64];
+    tempolemon_result result;
+    uint8_t status = TEMPOLEMON_NOT_LIVE;
     snprintf(path, sizeof path, "/db%s%s", *of ? "/" : "", of);
     pthread_mutex_lock(&pool.mutex);
-    const uint8_t status = pool.zone.is_live ? read_text(path, file, text) : TEMPOLEMON_NOT_LIVE;
+    if (pool.zone.is_live)
+        status = tempolemon_on_read(&pool.cpus[0], path, strlen(path), file, strlen(file), text, 256, &result);
     pthread_mutex_unlock(&pool.mutex);
-    return status == TEMPOLEMON_DONE ? NULL : "no group or file of this name";
+    if (status != TEMPOLEMON_DONE) return "no group or file of this name";
+    text[result.number] = 0;
+    return NULL;
 }

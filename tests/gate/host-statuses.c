@@ -32,6 +32,28 @@ static void is(const char *what, uint8_t given, uint8_t status) {
 
 #define BYTES(text) (const uint8_t *)(text), strlen(text)
 
+/* The calls of hosts that were compiled with headers of other versions, before a boot and with one. */
+static void other_versions(void) {
+    const uint32_t versions[] = {0, TEMPOLEMON_VERSION - 1, TEMPOLEMON_VERSION + 1, UINT32_MAX};
+    tempolemon_handle host = {0};
+    tempolemon_report report;
+    for (size_t at = 0; at < sizeof versions / sizeof *versions; at++) {
+        uint8_t buffer[8] = "before";
+        size_t written = 77, first_bad = 78;
+        is("a boot of another version", tempolemon_boot_as(versions[at], &SIZES, &host), TEMPOLEMON_BAD_VERSION);
+        is("its handle", host.raw || host.is_live, false);
+        is("a replay of another version",
+           tempolemon_replay_as(versions[at], &SIZES, false, false, BYTES("1 mkdir /a\n"), buffer, sizeof buffer,
+                                &written, &first_bad),
+           TEMPOLEMON_BAD_VERSION);
+        is("what it wrote", written != 77 || first_bad != 78 || memcmp(buffer, "before", 7) != 0, false);
+    }
+    is("the version of the library", tempolemon_version() != TEMPOLEMON_VERSION, false);
+    is("a boot of this version", tempolemon_boot_as(TEMPOLEMON_VERSION, &SIZES, &host), TEMPOLEMON_DONE);
+    is("a second boot of version 0", tempolemon_boot_as(0, &SIZES, &host), TEMPOLEMON_BAD_VERSION);
+    is("the end of the first", tempolemon_end(&host, &report), TEMPOLEMON_DONE);
+}
+
 #define MANY 25000
 static uint8_t many[9 * MANY], told[8 * MANY];
 
@@ -115,8 +137,10 @@ static void live(void) {
 }
 
 int main(void) {
-    tempolemon_sizes low_high = SIZES, no_frames = SIZES;
+    tempolemon_sizes low_high = SIZES, no_frames = SIZES, great_batch = SIZES, no_kill = SIZES;
     low_high.high = 3;
+    great_batch.reclaim_batch = 65;
+    no_kill.no_kill = 1;
     no_frames.frames = 0;
     expect("an exact buffer", SIZES, "1 mkdir /a\n", 8, TEMPOLEMON_DONE, "group 1\n", 8, 0);
     expect("a longer buffer", SIZES, "1 mkdir /a\n", 64, TEMPOLEMON_DONE, "group 1\n", 8, 0);
@@ -126,6 +150,12 @@ int main(void) {
     expect("a bad line", SIZES, "1 mkdir /a\n3 settle\n", 64, TEMPOLEMON_BAD_LINE, "", 0, 2);
     expect("a low high", low_high, "1 mkdir /a\n", 64, TEMPOLEMON_BAD_CONFIG, "", 0, 0);
     expect("no frames", no_frames, "bad\n", 64, TEMPOLEMON_BAD_CONFIG, "", 0, 0);
+    expect("a great batch of reclaim", great_batch, "1 mkdir /a\n", 64, TEMPOLEMON_BAD_CONFIG, "", 0, 0);
+    great_batch.reclaim_batch = 64;
+    expect("the greatest batch of reclaim", great_batch, "1 mkdir /a\n", 64, TEMPOLEMON_DONE, "group 1\n", 8, 0);
+    expect("nobody is killed", no_kill, "1 mkdir /a\n1 write /a memory.max 4K\n1 alloc /a 0\n1 dirty 0\n1 alloc /a 0\n", 64,
+           TEMPOLEMON_DONE, "group 1\nok\nframe 0\nok\nrefused 15 OverLimit /a\n", 46, 0);
+    other_versions();
     live();
     return failures != 0;
 }

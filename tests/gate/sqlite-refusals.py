@@ -50,9 +50,9 @@ except MemoryError:
     pass
 want(call("limit", b"a", 2 * MIB), None)
 database.execute("insert into t values(zeroblob(1000000))")
-want(call("limit", b"a", MIB), "its databases have pinned more than that")
+want(call("limit", b"a", MIB // 2), "its databases have pinned more than that")
 database.close()
-want(call("limit", b"a", MIB), None)
+want(call("limit", b"a", MIB // 2), None)
 
 # 62 tenants and caches: the next gets SQLITE_NOMEM
 want(call("limit", b"a", 8 * MIB), None)

@@ -60,9 +60,14 @@ static void refusals(void) {
     is("an end of none", tempolemon_zone_end(&none, &report), TEMPOLEMON_NOT_LIVE);
     is("a take of none", tempolemon_take(&none, 1, &one), TEMPOLEMON_NOT_LIVE);
     all_are("a call of none", &one, TEMPOLEMON_NOT_LIVE);
+    const uint32_t next = TEMPOLEMON_VERSION + 1;
+    is("a boot of the next version", tempolemon_zone_boot_as(next, &SIZES, &zone), TEMPOLEMON_BAD_VERSION);
+    is("one of version 0", tempolemon_zone_boot_as(0, &low_high, &zone), TEMPOLEMON_BAD_VERSION);
+    is("its handle", zone.raw || zone.is_live, false);
     is("a low high", tempolemon_zone_boot(&low_high, &zone), TEMPOLEMON_BAD_CONFIG);
     is("a boot", tempolemon_zone_boot(&SIZES, &zone), TEMPOLEMON_DONE);
     is("a second boot", tempolemon_zone_boot(&SIZES, &zone), TEMPOLEMON_IS_LIVE);
+    is("one of the next version", tempolemon_zone_boot_as(next, &SIZES, &zone), TEMPOLEMON_BAD_VERSION);
     is("CPU 0", tempolemon_take(&zone, 0, &one), TEMPOLEMON_BAD_CPU);
     is("CPU 4", tempolemon_take(&zone, 4, &one), TEMPOLEMON_BAD_CPU);
     is("CPU 2^32 - 1", tempolemon_take(&zone, UINT32_MAX, &one), TEMPOLEMON_BAD_CPU);

@@ -54,7 +54,7 @@ class Replay:
         self.groups = {path: Group(path) for path in usage.groups}
         self.ups = {path: [self.groups[above] for above in path_up(path)] for path in usage.groups}
         self.places = {}  # of each frame of a file's page: its group, and which of its pages it is
-        self.deaths, self.seconds = [], 0.0
+        self.deaths, self.refused, self.seconds = [], 0, 0.0
         self.reclaims = {}  # of a limit or memory.high and of a group: the first and last second, and the frames
         for answer in session.ask(self.lines_of_new(self.groups.values())):
             if not (answer[0].startswith("group ") or answer[0] == "ok"):
@@ -241,6 +241,9 @@ class Replay:
         if words[0] == "frame":
             self.count(group, 1)
             return int(words[1])
+        if words[1] == "15" and self.session.is_no_kill:
+            self.refused += 1
+            return None  # the page isn't given, and nobody dies
         if words[1] == "15" and not group.death:
             # Nobody below the limit had anything that a kill could free. A task would die that can't have its page.
             self.bury(group, self.groups[from_node(words[3])], group, answer)
@@ -260,7 +263,7 @@ class Replay:
             frames = [self.placed(group, answer) for answer in answers]
             group.anon += [frame for frame in frames if frame is not None]
             self.session.tell([f"1 dirty {frame}" for frame in frames if frame is not None])
-            count -= part
+            count = 0 if None in frames else count - part  # one more wouldn't be given either
 
     def forget_reclaimed(self, group):
         """Reclaimed pages are read again: they are the newest then, so until then they aren't among the pages."""

@@ -106,7 +106,8 @@ def last_line(replay, size, spared):
     """What came of it. `spared` says which file pages reclaim couldn't take."""
     if not replay.deaths:
         reclaimed = amount_text(replay.groups["/"].reclaimed * size)
-        return f"survived: no group died, and {reclaimed} of file pages were reclaimed"
+        refused = f"; {replay.refused} allocations were refused" if replay.refused else ""
+        return f"survived: no group died, and {reclaimed} of file pages were reclaimed{refused}"
     first = replay.deaths[0]
     limit, asker = first.limit, first.asker
     why = f"{asker.path} asked for a frame" if asker else "it was written below the usage"
@@ -159,7 +160,7 @@ def json_lines(name, usage, size, replay):
     yield json.dumps({
         "usage": name, "samples": len(usage.samples), "seconds": usage.samples[-1].seconds - usage.samples[0].seconds,
         "host_bytes": usage.host * size, "frame_bytes": size, "restart_seconds": replay.restart,
-        "survived": not replay.deaths, "reclaimed_bytes": replay.groups["/"].reclaimed * size,
+        "survived": not replay.deaths, "times_refused": replay.refused, "reclaimed_bytes": replay.groups["/"].reclaimed * size,
         "groups": [group_object(group, wanted[path], size, deaths.get(path)) for path, group in replay.groups.items()],
         "kills": [{"seconds": death.seconds, "group": death.group.path, "limit": death.limit.path,
                    "asker": death.asker and death.asker.path} for death in replay.deaths],

@@ -28,11 +28,11 @@ def find_program(folders):
 class Session:
     """A session. The lines are kept if they are to become a log."""
 
-    def __init__(self, memcg, frames, is_kept=False):
-        self.memcg, self.frames = memcg, frames
+    def __init__(self, memcg, frames, is_kept=False, choices=()):
+        self.memcg, self.words, self.is_no_kill = memcg, [*sizes(frames), *choices], "--no-kill" in choices
         self.script = [] if is_kept else None
         try:
-            self.ran = subprocess.Popen([memcg, "serve", "--explain", *sizes(frames)], stdin=subprocess.PIPE,
+            self.ran = subprocess.Popen([memcg, "serve", "--explain", *self.words], stdin=subprocess.PIPE,
                                         stdout=subprocess.PIPE, stderr=subprocess.PIPE, bufsize=0)
         except OSError as fault:
             raise Fault(f"{memcg}: {fault.strerror}: --memcg PATH names Tempolemon's memcg") from None
@@ -107,7 +107,7 @@ class Session:
         if len(script) > MOST_SCRIPT:
             raise Fault(f"the script of the log has {len(script)} bytes, and at most {MOST_SCRIPT} are possible: "
                         "a greater --frame makes it shorter")
-        ran = subprocess.run([self.memcg, "replay", "--steps", *sizes(self.frames)], input=script,
+        ran = subprocess.run([self.memcg, "replay", "--steps", *self.words], input=script,
                              stdout=subprocess.PIPE, stderr=subprocess.PIPE, universal_newlines=True, check=False)
         if ran.returncode != 0:
             raise Fault(f"{self.memcg} replay ended: {ran.stderr.strip()}")

@@ -27,8 +27,13 @@ const CUT = "the comment of this line is cut, so that nobody can say what it ask
 
 /** The sizes that the second line of a log of memcg has; null if it has none that `replay` takes. */
 function sizesOf(text) {
-  const [batch, high, stock] = (/^# memcg batch ([1-9][0-9]?) high ([1-9][0-9]{0,2}) stock ([1-9][0-9]?)$/.exec(text) ?? []).slice(1).map(Number);
-  return batch <= 64 && batch <= high && high <= 256 && stock <= 64 ? { batch, high, stock } : null;
+  const found = /^# memcg batch ([1-9][0-9]?) high ([1-9][0-9]{0,2}) stock ([1-9][0-9]?)( reclaim-batch ([1-9][0-9]?))?( no-kill)?( fair)?$/.exec(text) ?? [];
+  const [batch, high, stock] = found.slice(1, 4).map(Number), reclaimBatch = Number(found[5] ?? 1), isNoKill = found[6] !== undefined, isFair = found[7] !== undefined;
+  return batch <= 64 && batch <= high && high <= 256 && stock <= 64 && reclaimBatch <= 64 ? { batch, high, stock, reclaimBatch, isNoKill, isFair } : null;
+}
+/** The sizes and choices of a boot in words, but for the choices that a boot without any doesn't make. */
+function sizesWords({ batch, high, stock, reclaimBatch, isNoKill, isFair }) {
+  return `batch ${batch}, high ${high}, stock ${stock}${reclaimBatch > 1 ? `, reclaim batch ${reclaimBatch}` : ""}${isNoKill ? ", no kills" : ""}${isFair ? ", fair" : ""}`;
 }
 /** The words of a command: the value of a write is all that follows. */
 function wordsOf(command) {

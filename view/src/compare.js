@@ -186,7 +186,7 @@ function drawRuns() {
   const { status, text } = page.otherVerdict, number = run.lineNumbers.at(run.position);
   other.goto(positionOf(number, other));
   const its = other.lineNumbers.at(other.position), sizes = other.sizes, cell = (textContent, name = "td", more = {}) => make(name, { textContent: textContent.slice(0, 300), title: textContent, ...more });
-  byId("runs-said").textContent = byId("runs-said").title = `${plural(page.differs.length, "line")} differ${page.differs.length === 1 ? "s" : ""} · ${page.otherName}: ${status ? `✕ ${text}` : "✓ legal"}${sizes ? `, batch ${sizes.batch}, high ${sizes.high}, stock ${sizes.stock}` : ""}`;
+  byId("runs-said").textContent = byId("runs-said").title = `${plural(page.differs.length, "line")} differ${page.differs.length === 1 ? "s" : ""} · ${page.otherName}: ${status ? `✕ ${text}` : "✓ legal"}${sizes ? `, ${sizesWords(sizes)}` : ""}`;
   const head = names => make("tr", {}, ...names.map(([name, span, className]) => make("th", { textContent: name, colSpan: span, className, scope: "col" })));
   const rows = comparedRows(run, other).map(({ name, ours, theirs }, at) => {
     const differs = `${ours}` !== `${theirs}`, isWide = at < 2, values = isWide ? [[ours[0], 3], [theirs[0], 3]] : ours.flatMap((each, index) => [[each, 1], [theirs[index], 1]]);

@@ -1,4 +1,4 @@
-const MOST_CHOICES = 20;
+const MOST_CHOICES = 20, MOST_KILL_ORDER = 3; // above this order nobody is killed
 /**
  * What makes a kill: the limit and the usage under it, how many pages have no room, and how many pages reclaim would free
  * besides, if memory.min spared none, if the victim's units were clean, if all below the limit were, and if these had no pins either. To find
@@ -25,7 +25,7 @@ function choiceOf(state, limited, need, victim = -1) {
  */
 class Follower {
   constructor() {
-    Object.assign(this, { state: null, reader: null, sizes: null, lacksSizes: false, line: null, isEnd: false, plan: null, expected: -1, number: 0, seconds: -1, hasReasons: null, choice: null, choices: 0 });
+    Object.assign(this, { state: null, reader: null, sizes: null, lacksSizes: false, line: null, isEnd: false, plan: null, expected: -1, number: 0, seconds: -1, hasReasons: null, choice: null, choices: 0, lastTurn: 0 });
     this.sawNone = new Uint8Array(MOST_CPUS + 1); // whether the CPU saw last that its stock has no page
   }
   zone(state, reader) {
@@ -103,7 +103,7 @@ class Follower {
     Object.assign(this, { line, isEnd: !line, due: null, told: 0, notes: [], details: 0, more: 0, wants: null, note: "", isOpen: false, locks: 0,
       steps: 0, blocked: 0, isBlock: false, behindUngrant: "", over: null, owed: null, drains: [], own: null, took: -1, placed: -1,
       made: -1, isRemoved: false, isSet: false, left: "", got: "", isListed: false, granted: 0, hand: 0, unlisted: 0, passed: 0,
-      givenBack: 0, freed: 0, limited: -1, drainedFor: -1, isDraining: false, killing: null, dying: [], killedWhole: -1, pinsPut: 0 });
+      givenBack: 0, freed: 0, limited: -1, oomAt: -1, drainedFor: -1, isDraining: false, killing: null, dying: [], killedWhole: -1, pinsPut: 0 });
     if (!line) return;
     this.number = line.number;
     const { cpu, verb, words } = line, part = state.parts[cpu], frame = Number(words[0]);
@@ -174,11 +174,16 @@ class Follower {
       return pages;
     };
     for (const pass of state.isProtecting ? [1, 2, 3] : [1, 2]) {
-      for (const group of state.subtree(top)) if (told.pages < want) yield* this.turn(top, group, pass, want - told.pages, attempt, detail);
+      for (const group of this.inTurn(state.subtree(top))) if (told.pages < want) yield* this.turn(top, group, pass, want - told.pages, attempt, detail);
     }
     close();
     this.notes.push(`# round ${number} tried ${told.tried} missed ${told.tried - told.returned} returned ${told.returned} bytes ${told.pages * PAGE} usage ${state.groups[top].current * PAGE}`);
     return told.pages;
+  }
+  /** The groups in the order of their turns: if turns go round, from the one on that comes after the last one that had a turn. */
+  inTurn(groups) {
+    const last = this.lastTurn;
+    return this.sizes.isFair ? [...groups.filter(group => group > last), ...groups.filter(group => group <= last)] : groups;
   }
   /** A group's turn in a pass: it ends at what is protected. The third pass spares what memory.min protects, and notes if it took what memory.low does. */
   *turn(top, group, pass, want, attempt, detail) {
@@ -188,6 +193,7 @@ class Follower {
     let freed = 0;
     if (pass === 1 && most < want && current) detail(`# spared ${facts}`);
     if (most <= 0) return;
+    this.lastTurn = group;
     while (pass === 1 && state.length[active] > state.length[inactive]) this.move(state.first[active], false);
     for (const list of pass === 1 ? [inactive] : [inactive, active]) {
       const last = state.last[list];
@@ -240,8 +246,13 @@ class Follower {
     this.plan = this.highs(group, pages);
     this.go();
   }
+  /** A round for a charge wants at least the batch of the boot; one for what was written wants what is missing. */
   wantRoom(group, pages, bound) {
-    this.wants = () => this.reclaim(group, () => this.state.missing(group, pages, bound));
+    const least = pages ? this.sizes.reclaimBatch : 1;
+    this.wants = () => this.reclaim(group, () => {
+      const missing = this.state.missing(group, pages, bound);
+      return missing && Math.max(missing, least);
+    });
     this.drainBelow(new Set(this.state.subtree(group)));
   }
   /** The stocks of these groups have to be drained. */
@@ -282,6 +293,14 @@ class Follower {
     this.choice = choiceOf(state, limited, this.over?.pages ?? 0, ++this.choices > MOST_CHOICES ? -1 : victim[0]);
     this.notes.push(`# victim ${state.path(victim[0])} frames ${victim[1]} of ${next ? 2 + more.length : 1} candidates${next ? `, next ${state.path(next[0])} frames ${next[1]}` : ""}`);
     if (flagged.length) this.notes.push(`# group ${state.path(this.killedWhole)} groups ${this.dying.length}`);
+  }
+  /** What is still to be done for a limit without room: a note that it is out of memory, or a kill. */
+  get dueForRoom() {
+    const { state, limited, sizes, line: { order } } = this;
+    if (limited < 0 || sizes.isNoKill || order > MOST_KILL_ORDER || !state.missing(limited, this.over?.pages ?? 0)) return "";
+    if (this.oomAt !== limited) return `note-oom ${limited}`;
+    const isDead = order >= 0 && state.groups[this.group].killed;
+    return !isDead && state.subtree(limited).some(group => !state.groups[group].killed && this.framesOf(group)) ? "a kill" : "";
   }
   endKill() {
     const { group, returned, pages, pinned } = this.killing;
@@ -401,8 +420,10 @@ class Follower {
     switch (action) {
       case "lock":
         return need(!this.locks++, "the line has the lock once");
-      case "shut":
-        return need(this.isOpen && !state.count("b", cpu), "the CPU isn't settled");
+      case "shut": {
+        const due = this.dueForRoom;
+        return need(!due && this.isOpen && !state.count("b", cpu), due ? `${due} was due` : "the CPU isn't settled");
+      }
       case "freeze":
         return need(a === this.expected && b === 1, `${this.expected < 0 ? "no freeze" : `freeze ${this.expected} 1`} was next`);
       case "unfreeze":
@@ -445,9 +466,9 @@ class Follower {
       case "note-max":
         return need(this.over && a === this.over.group, "no limit refused");
       case "note-oom":
-        return need(a === this.limited && !this.killing && state.missing(a, this.over?.pages ?? 0), `${this.limited < 0 ? "no limit" : `group ${this.limited}`} is out of memory`);
+        return need(!this.sizes.isNoKill && a === this.limited && !this.killing && state.missing(a, this.over?.pages ?? 0), this.sizes.isNoKill ? "the boot kills nobody" : `${this.limited < 0 ? "no limit" : `group ${this.limited}`} is out of memory`);
       case "kill":
-        return need(a === this.dying[0], this.dying.length ? `kill ${this.dying[0]} was due` : "no group was due");
+        return need(!this.sizes.isNoKill && a === this.dying[0], this.dying.length ? `kill ${this.dying[0]} was due` : "no group was due");
       case "group-kill":
         return need(a === this.killedWhole && !this.dying.length, "no group was killed as a whole");
       case "unlock":
@@ -583,7 +604,7 @@ class Follower {
         break;
       case "note-oom":
         this.notes.push(`# oom ${state.path(a)}`);
-        this.isOom = true;
+        this.oomAt = a;
         break;
       case "kill":
         this.dying.shift();

@@ -64,7 +64,7 @@ function begin(name, log, run) {
   byId("name").textContent = name;
   document.title = `${name} – memcg log`;
   byId("sizes").textContent = `${plural(run.frames, "frame")} · ${plural(run.cpus, "CPU")}` +
-    (run.sizes ? ` · batch ${run.sizes.batch}, high ${run.sizes.high}, stock ${run.sizes.stock}` : " · steps without commands");
+    (run.sizes ? ` · ${sizesWords(run.sizes)}` : " · steps without commands");
   byId("groups-table").classList.toggle("large", run.frames > 9999);
   for (const kind of ["low", "high"])
     byId("groups-table").classList.toggle(`no-${kind}`, !run.lives.some(life => life[`${kind}s`].length > 1) && !run.events.some(event => event.kind === kind));

@@ -65,18 +65,21 @@ class Report(NamedTuple):
 class Zone:
     """A zone of page frames, which all threads share. It is ended at the end of `with`, and then `report` is there.
 
-    It takes all memory that it ever needs, except for small blocks and texts. Raises BadConfig, NoMemory.
+    It takes all memory that it ever needs, except for small blocks and texts. Raises BadVersion, BadConfig, NoMemory.
 
     frames: 1 to 1,048,576, numbered from 0. cpus: 1 to 64, numbered from 1. batch: frames by which a CPU's list is refilled
     or cut, 1 to 64. high: frames at which it is cut, batch to 256. stock: pages that a CPU prepays at once, 1 to 64.
+    reclaim_batch: pages that a round of reclaim for a charge wants at least, 1 to 64. no_kill: nobody is killed, and a
+    charge without room is refused. fair: each pass of reclaim begins after the group that had the last turn.
     """
 
     report: Optional[Report] = None
 
-    def __init__(self, frames: int, cpus: int, batch: int = 4, high: int = 8, stock: int = 4) -> None:
+    def __init__(self, frames: int, cpus: int, batch: int = 4, high: int = 8, stock: int = 4, *,
+                 reclaim_batch: int = 1, no_kill: bool = False, fair: bool = False) -> None:
         self._handle, self._lock = raw.Handle(), threading.Lock()
-        sizes = raw.Sizes(*map(_word, (frames, cpus, batch, high, stock)))
-        _need(raw.library.tempolemon_zone_boot(sizes, self._handle))
+        sizes = raw.Sizes(*map(_word, (frames, cpus, batch, high, stock, reclaim_batch, no_kill, fair)))
+        _need(raw.library.tempolemon_zone_boot_as(raw.VERSION, sizes, self._handle))
 
     def take(self, number: int) -> "Cpu":
         """The CPU of this number, from 1, with the list, stock and pins that it was returned with.

@@ -145,6 +145,10 @@ class InUse(Error, status=113):
     """another thread is inside a call on this CPU"""
 
 
+class BadVersion(Error, status=115):
+    """the library is of another version than this package"""
+
+
 class Zero(Error):
     """the frame has no reference"""
 

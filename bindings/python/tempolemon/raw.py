@@ -3,11 +3,13 @@ import ctypes
 import os
 from ctypes import POINTER, c_bool, c_char_p, c_size_t, c_uint8, c_uint32, c_uint64, c_void_p
 
+# The version of the headers that this package was written for.
+VERSION = 1
 DONE, SMALL_BUFFER, BUSY = 0, 103, 109
 
 
 class Sizes(ctypes.Structure):
-    _fields_ = [(name, c_uint32) for name in ("frames", "cpus", "batch", "high", "stock")]
+    _fields_ = [(name, c_uint32) for name in ("frames", "cpus", "batch", "high", "stock", "reclaim_batch", "no_kill", "fair")]
 
 
 class Handle(ctypes.Structure):
@@ -39,7 +41,7 @@ def _path() -> str:
 library = ctypes.PyDLL(_path())
 _TEXT, _ROOM, _OUT = (c_char_p, c_size_t), (c_void_p, c_size_t), (POINTER(TypedResult),)
 _FORMS = {
-    "zone_boot": (POINTER(Sizes),), "zone_end": (POINTER(Report),), "try_take": (c_uint32, POINTER(Handle)),
+    "zone_end": (POINTER(Report),), "try_take": (c_uint32, POINTER(Handle)),
     "try_return": (), "cpu_get": (c_uint32, *_OUT), "cpu_put": (c_uint32, *_OUT),
     "try_alloc": (c_uint32, c_uint32, *_OUT), "try_alloc_dirty": (c_uint32, c_uint32, *_OUT),
     "try_alloc_pinned": (c_uint32, c_uint32, *_OUT),
@@ -55,5 +57,7 @@ _FORMS = {
 for _name, _form in _FORMS.items():
     _call = getattr(library, f"tempolemon_{_name}")
     _call.restype = c_uint8
-    _call.argtypes = (POINTER(Sizes), POINTER(Handle)) if _name == "zone_boot" else (POINTER(Handle), *_form)
+    _call.argtypes = (POINTER(Handle), *_form)
+library.tempolemon_zone_boot_as.restype = c_uint8
+library.tempolemon_zone_boot_as.argtypes = (c_uint32, POINTER(Sizes), POINTER(Handle))
 library.tempolemon_proof.restype = c_char_p

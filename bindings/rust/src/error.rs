@@ -88,6 +88,7 @@ errors! {
     110 CpuOut "another handle has this CPU",
     111 CpusOut "a CPU isn't returned",
     112 Lost "a CPU wasn't there at the end",
+    115 BadVersion "the library is of another version than this crate",
 }
 
 impl fmt::Display for Error {

@@ -22,9 +22,9 @@ pub static PROOF: LazyLock<&str> = LazyLock::new(|| {
     unsafe { CStr::from_ptr(raw::tempolemon_proof()) }.to_str().unwrap_or("unproved: the text isn't UTF-8")
 });
 
-/// The sizes of a zone.
+/// The sizes of a zone, and its choices. `..Sizes::default()` makes none.
 #[repr(C)]
-#[derive(Clone, Copy, Debug, PartialEq, Eq)]
+#[derive(Clone, Copy, Debug, Default, PartialEq, Eq)]
 pub struct Sizes {
     /// Frames of the zone, numbered from 0: 1 to 1,048,576.
     pub frames: u32,
@@ -36,6 +36,12 @@ pub struct Sizes {
     pub high: u32,
     /// Pages that a CPU prepays at once: 1 to 64.
     pub stock: u32,
+    /// Pages that a round of reclaim for a charge wants at least: 0 to 64; 0 is 1.
+    pub reclaim_batch: u32,
+    /// 0, or 1: nobody is killed, and a charge without room is refused.
+    pub no_kill: u32,
+    /// 0, or 1: each pass of reclaim begins after the group that had the last turn, and goes round.
+    pub fair: u32,
 }
 
 /// What a zone reports at its end, in the words of docs/MANUAL.md, "The end, and --audit".
@@ -112,7 +118,7 @@ pub enum Owner {
 ///
 /// ```compile_fail,E0505
 /// # use tempolemon::{Sizes, Zone};
-/// # let zone = Zone::boot(&Sizes { frames: 64, cpus: 2, batch: 4, high: 8, stock: 4 }).unwrap();
+/// # let zone = Zone::boot(&Sizes { frames: 64, cpus: 2, batch: 4, high: 8, stock: 4, ..Sizes::default() }).unwrap();
 /// let cpu = zone.take(1).unwrap();
 /// zone.end().unwrap();
 /// cpu.settle().unwrap();
@@ -125,10 +131,10 @@ impl Zone {
     /// Boots a zone of these sizes, with all its CPUs returned. It takes all memory that the zone ever needs, except for a
     /// small block of each [`Cpu`] and for the texts of [`Cpu::show`], `blocks`, `stock` and `units`.
     ///
-    /// Errors: `BadConfig`, `NoMemory`.
+    /// Errors: `BadVersion`, `BadConfig`, `NoMemory`.
     pub fn boot(sizes: &Sizes) -> Result<Zone, Error> {
         let mut zone = Handle::NONE;
-        done(unsafe { raw::tempolemon_zone_boot(sizes, &mut zone) }).map(|()| Zone(Mutex::new(zone)))
+        done(unsafe { raw::tempolemon_zone_boot_as(raw::VERSION, sizes, &mut zone) }).map(|()| Zone(Mutex::new(zone)))
     }
 
     /// Takes the CPU of this number, from 1, with the list, the stock and the pins that it was returned with.
@@ -168,7 +174,7 @@ impl Drop for Zone {
 ///
 /// ```compile_fail,E0277
 /// # use tempolemon::{Sizes, Zone};
-/// # let zone = Zone::boot(&Sizes { frames: 64, cpus: 2, batch: 4, high: 8, stock: 4 }).unwrap();
+/// # let zone = Zone::boot(&Sizes { frames: 64, cpus: 2, batch: 4, high: 8, stock: 4, ..Sizes::default() }).unwrap();
 /// let cpu = zone.take(1).unwrap();
 /// std::thread::scope(|scope| {
 ///     scope.spawn(|| cpu.settle());
@@ -180,7 +186,7 @@ impl Drop for Zone {
 ///
 /// ```compile_fail,E0597
 /// # use tempolemon::{Sizes, Zone};
-/// # let sizes = Sizes { frames: 64, cpus: 2, batch: 4, high: 8, stock: 4 };
+/// # let sizes = Sizes { frames: 64, cpus: 2, batch: 4, high: 8, stock: 4, ..Sizes::default() };
 /// let cpu = {
 ///     let zone = Zone::boot(&sizes).unwrap();
 ///     zone.take(1).unwrap()
@@ -469,7 +475,7 @@ impl Drop for Cpu<'_> {
 ///
 /// ```compile_fail,E0597
 /// # use tempolemon::{Frame, Sizes, Zone};
-/// # let zone = Zone::boot(&Sizes { frames: 64, cpus: 2, batch: 4, high: 8, stock: 4 }).unwrap();
+/// # let zone = Zone::boot(&Sizes { frames: 64, cpus: 2, batch: 4, high: 8, stock: 4, ..Sizes::default() }).unwrap();
 /// let pin = {
 ///     let cpu = zone.take(1).unwrap();
 ///     cpu.get(Frame(0))
@@ -479,7 +485,7 @@ impl Drop for Cpu<'_> {
 ///
 /// ```compile_fail,E0505
 /// # use tempolemon::{Frame, Sizes, Zone};
-/// # let zone = Zone::boot(&Sizes { frames: 64, cpus: 2, batch: 4, high: 8, stock: 4 }).unwrap();
+/// # let zone = Zone::boot(&Sizes { frames: 64, cpus: 2, batch: 4, high: 8, stock: 4, ..Sizes::default() }).unwrap();
 /// let cpu = zone.take(1).unwrap();
 /// let pin = cpu.get(Frame(0));
 /// drop(zone);

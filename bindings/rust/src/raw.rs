@@ -3,6 +3,9 @@
 use std::ffi::{c_char, c_void};
 use std::ptr::null_mut;
 
+/// The version of the headers that this crate was written for.
+pub const VERSION: u32 = 1;
+
 pub const DONE: u8 = 0;
 pub const SMALL_BUFFER: u8 = 103;
 pub const BUSY: u8 = 109;
@@ -43,7 +46,7 @@ pub struct TypedResult {
 
 #[rustfmt::skip]
 extern "C" {
-    pub fn tempolemon_zone_boot(sizes: *const crate::Sizes, zone: *mut Handle) -> u8;
+    pub fn tempolemon_zone_boot_as(version: u32, sizes: *const crate::Sizes, zone: *mut Handle) -> u8;
     pub fn tempolemon_zone_end(zone: *mut Handle, report: *mut crate::Report) -> u8;
     pub fn tempolemon_try_take(zone: *mut Handle, cpu: u32, part: *mut Handle) -> u8;
     pub fn tempolemon_try_return(part: *mut Handle) -> u8;

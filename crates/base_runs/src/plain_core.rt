@@ -10,6 +10,7 @@ use std::alloc::{AllocError, Global};
 use std::process::Abort;
 use std::test::Fail;
 use zone_blocks::block::Block;
+use zone_blocks::choices::Choices;
 use zone_blocks::order::Order;
 
 const SIXTEEN_FRAMES: Config = Config {
@@ -18,6 +19,7 @@ const SIXTEEN_FRAMES: Config = Config {
     batch: 1,
     high: 1,
     stock: 1,
+    choices: Choices::NONE,
 };
 
 // A seat, its step, and the required answer.

@@ -14,6 +14,7 @@ use std::marker::Brand;
 use std::sync::Wait;
 use std::thread::Threads;
 use std::time::Clock;
+use zone_blocks::choices::Choices;
 use zone_blocks::config::Config;
 
 /// The sizes of the system on which calls are measured.
@@ -23,6 +24,7 @@ pub const SIZES: Config = Config {
     batch: 4,
     high: 8,
     stock: 4,
+    choices: Choices::NONE,
 };
 
 // The path of the group of depth 1.

@@ -9,6 +9,7 @@ use std::alloc::Global;
 use std::marker::Brand;
 use std::process::Abort;
 use std::sync::Wait;
+use zone_blocks::choices::Choices;
 use zone_blocks::config::Config;
 
 // All sizes are the greatest.
@@ -18,6 +19,7 @@ const LARGEST: Config = Config {
     batch: 64,
     high: 256,
     stock: 64,
+    choices: Choices::NONE,
 };
 
 // All frames are free again. One was paid for and dropped.

@@ -10,6 +10,7 @@ use std::alloc::Global;
 use std::marker::Brand;
 use std::process::Abort;
 use std::sync::Wait;
+use zone_blocks::choices::Choices;
 use zone_blocks::config::Config;
 
 /// 16 frames and two CPUs.
@@ -19,6 +20,7 @@ pub const SIZES: Config = Config {
     batch: 4,
     high: 8,
     stock: 4,
+    choices: Choices::NONE,
 };
 
 /// The condition holds, or the test fails. A call is cheaper to prove than the macro in its place.

@@ -2,6 +2,7 @@
 
 use crate::streams::{expect_row, words_of};
 use load_run::{Options, Task, options};
+use zone_blocks::choices::Choices;
 use zone_blocks::config::Config;
 
 // Good words, separated by single spaces, and what they ask for: the task; frames, CPUs, `batch`, `high` and `stock`;
@@ -109,6 +110,7 @@ fn asks_for_what_the_words_say(rt: HostRuntime) {
                 batch,
                 high,
                 stock,
+                choices: Choices::NONE,
             },
             is_audited,
             is_numbered,
@@ -117,4 +119,16 @@ fn asks_for_what_the_words_say(rt: HostRuntime) {
         let asked = options(rt.alloc(), &words_of(&rt, words)).expect(&rt, words);
         expect_row(&rt, asked == wanted, words);
     }
+}
+
+#[test]
+fn asks_for_the_choices(rt: HostRuntime) {
+    let words = "lint --fair --reclaim-batch 64 --no-kill";
+    let wanted = Choices {
+        is_fair: true,
+        is_no_kill: true,
+        reclaim_batch: 64,
+    };
+    let asked = options(rt.alloc(), &words_of(&rt, words)).expect(&rt, words);
+    expect_row(&rt, asked.sizes.choices == wanted, words);
 }

@@ -11,24 +11,28 @@ use crate::raw::{BootWords, PastSeat};
 use std::alloc::{AllocError, Global};
 use std::mem;
 use stock_word::Stock;
+use zone_blocks::choices::Choices;
 
 impl BootWords {
-    /// A table for this many frames, numbered from 0, and the CPUs 1 to `cpus` (1 to 64), with the zone's seat and those
-    /// of the CPUs in their order. Each word is 0 and the run has no step: each frame is free, no visit is open, no stock
-    /// has a group, and nobody holds the lock. `AllocError` if memory runs out.
+    /// A table for this many frames, numbered from 0, and the CPUs 1 to `cpus` (1 to 64), with the zone's seat and
+    /// those of the CPUs in their order. It keeps the choices of the boot. Each word is 0 and the run has no step: each
+    /// frame is free, no visit is open, no stock has a group, and nobody holds the lock. `AllocError` if memory runs
+    /// out.
     pub fn new(
         alloc: Global,
         frames: u32,
         cpus: u32,
+        choices: Choices,
     ) -> Result<(BootWords, PastSeat, Vec<CpuSeat>), AllocError>
         requires frames { 1 ≤ frames }
         requires cpus { (1 ≤ cpus) × (cpus ≤ 64) }
         ensures sizes { IfOk result (λ r. (r.0.frames ≡ frames) × (r.0.cpus ≡ cpus)) }
+        ensures choices { IfOk result (λ r. r.0.choices ≡ choices) }
         ensures zone { IfOk result (λ r. r.1 ≡ seat_at_first r.0.table 0) }
         ensures cpus { IfOk result (λ r. r.2.items ≡ cpus_at_first r.0.table 1 cpus) }
         ensures away { IfOk result (λ r. AllOf (IsAwayCpu r.0) r.2.items) }
     {
-        let (words, mut zone) = BootWords::start(alloc, frames, cpus)?;
+        let (words, mut zone) = BootWords::start(alloc, frames, cpus, choices)?;
         let mut rest = words.split_others(&mut zone);
         let seats = words.deal(alloc, &mut rest, cpus);
         drop(rest);

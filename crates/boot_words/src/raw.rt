@@ -16,6 +16,7 @@ use std::alloc::{AllocError, Global};
 use std::collections::LinkedList;
 use std::marker::{Brand, Model, PhantomData};
 use std::mem;
+use zone_blocks::choices::Choices;
 
 /// The pasts of a seat: its own, or none while that is with the zone's seat.
 pub(crate) type Pasts = LinkedList<Past>;
@@ -85,12 +86,14 @@ impl Join<Pasts> for Both {
 }
 
 /// The atomic words of a boot: one of each frame, and two of each CPU, for its stock and its visit. CPUs share it by
-/// `&`, and none waits in a call. A contract sees the table's identity and its numbers of frames and CPUs.
+/// `&`, and none waits in a call. A contract sees the table's identity, its numbers of frames and CPUs, and the choices
+/// of the boot, which never change.
 #[derive(Drop)]
 pub struct BootWords {
     table: Table<(), Pasts, TableKey, OneRun, Global>,
     frames: u32,
     cpus: u32,
+    choices: Choices,
 }
 
 impl Model for BootWords {
@@ -100,7 +103,9 @@ impl Model for BootWords {
 
     ghost use Rattle.boot_words.specs.Seats.{HasBootLayout};
 
-    ghost view = { λ w. record { table = w.table.shared.table_id; frames = w.frames; cpus = w.cpus } };
+    ghost view = { λ w. record {
+        table = w.table.shared.table_id; frames = w.frames; cpus = w.cpus; choices = w.choices;
+    } };
 
     ghost invariant = { λ w. HasBootLayout w.table.shared.table_id w.table.shared.key.frames w.table.shared.key.cpus
         w.frames w.cpus };
@@ -138,6 +143,13 @@ impl BootWords {
         ensures few { (1 ≤ result) × (result ≤ 64) }
     {
         self.cpus
+    }
+
+    /// The choices of the boot.
+    pub fn choices(&self) -> Choices
+        ensures { result ≡ self.now.choices }
+    {
+        self.choices
     }
 
     /// The frame of this number, or `None` if the zone has none.
@@ -272,10 +284,12 @@ impl BootWords {
         alloc: Global,
         frames: u32,
         cpus: u32,
+        choices: Choices,
     ) -> Result<(BootWords, PastSeat), AllocError>
         requires frames { 1 ≤ frames }
         requires cpus { (1 ≤ cpus) × (cpus ≤ 64) }
         ensures sizes { IfOk result (λ r. (r.0.frames ≡ frames) × (r.0.cpus ≡ cpus)) }
+        ensures choices { IfOk result (λ r. r.0.choices ≡ choices) }
         ensures all { IfOk result (λ r. r.1 ≡ record { table = r.0.table; pasts = all_pasts cpus }) }
     {
         let rows = 16 * (cpus as usize + 1);
@@ -286,6 +300,7 @@ impl BootWords {
             table,
             frames,
             cpus,
+            choices,
         };
         Ok((words, PastSeat { seat }))
     }
@@ -300,6 +315,7 @@ impl BootWords {
             table,
             frames: _,
             cpus: _,
+            choices: _,
         } = self;
         let PastSeat { seat } = seat;
         table.close_with(seat)

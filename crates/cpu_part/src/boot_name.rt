@@ -13,8 +13,9 @@ pub trait BootName {
 
 impl BootName for Brand {
     ghost use Rattle.cpu_part.specs.Cpus.{no_table};
+    ghost use Rattle.zone_blocks.specs.Config.{no_choices};
 
-    ghost table = { record { table = no_table; frames = 0; cpus = 0 } };
+    ghost table = { record { table = no_table; frames = 0; cpus = 0; choices = no_choices } };
 }
 
 /// The table of a boot's words, which all its CPUs share by `&`.

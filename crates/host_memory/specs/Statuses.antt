@@ -40,3 +40,7 @@ bad_frame = 107
 -- no group has this number
 abbrev pub bad_group : ℕ
 bad_group = 108
+
+-- the host was compiled with the headers of another version
+abbrev pub bad_version : ℕ
+bad_version = 115

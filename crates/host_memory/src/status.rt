@@ -30,3 +30,6 @@ pub const BAD_FRAME: u8 = 107;
 
 /// No group has this number.
 pub const BAD_GROUP: u8 = 108;
+
+/// The host was compiled with the headers of another version.
+pub const BAD_VERSION: u8 = 115;

@@ -1,7 +1,7 @@
 -- The sizes that the command line may ask for.
 use Rattle.std.specs.Prelude.{◌≤◌}
 use Rattle.zone_blocks.specs.declared.config.Config.{Config}
-use Rattle.zone_blocks.specs.Config.{most_batch, most_cpus, most_frames, most_high, most_stock}
+use Rattle.zone_blocks.specs.Config.{AreValidChoices, most_batch, most_cpus, most_frames, most_high, most_stock}
 
 -- each size is in the range of its own option
 pub record HasSizesInRange (sizes : Config) : Type 0 where
@@ -15,3 +15,4 @@ pub record HasSizesInRange (sizes : Config) : Type 0 where
   pub high_high : sizes.high ≤ most_high
   pub stock_low : 1 ≤ sizes.stock
   pub stock_high : sizes.stock ≤ most_stock
+  pub choices : AreValidChoices sizes.choices

@@ -11,7 +11,9 @@ use Rattle.clap.specs.declared.builder.action.ArgAction.TheVariants.{SetTrue}
 use Rattle.clap.specs.declared.builder.value_parser.ValueParser.TheVariants.{Signed}
 use Rattle.clap.specs.Kinds.{Kinds}
 use Rattle.zone_blocks.specs.declared.config.Config.{Config}
-use Rattle.zone_blocks.specs.Config.{most_batch, most_cpus, most_frames, most_high, most_stock}
+use Rattle.zone_blocks.specs.declared.choices.Choices.{Choices}
+use Rattle.zone_blocks.specs.Config.{most_batch, most_cpus, most_frames, most_high, most_reclaim_batch, most_stock}
+use Rattle.zone_blocks.specs.Config.{no_choices}
 use Rattle.load_options.specs.declared.task.Options.{Options}
 use Rattle.load_options.specs.declared.task.Task.{Task}
 use Rattle.load_options.specs.declared.task.Task.TheVariants.{Replay, Steps, Run, Check, Lint, Serve, ServeSteps, Version}
@@ -50,17 +52,22 @@ size_rules =
     ∷ size_rule (codes "batch") most_batch (codes "4")
     ∷ size_rule (codes "high") most_high (codes "8")
     ∷ size_rule (codes "stock") most_stock (codes "4")
+    ∷ size_rule (codes "reclaim-batch") most_reclaim_batch (codes "1")
     ∷ []
+
+-- the options of the sizes and choices
+abbrev pub zone_rules : List Rule
+zone_rules = size_rules ++ flag_rule (codes "no-kill") ∷ flag_rule (codes "fair") ∷ []
 
 -- the options that both subcommands that answer scripts have
 abbrev pub task_rules : List Rule
 task_rules =
-    ((size_rules ++ flag_rule (codes "audit") ∷ []) ++ flag_rule (codes "numbered") ∷ [])
+    ((zone_rules ++ flag_rule (codes "audit") ∷ []) ++ flag_rule (codes "numbered") ∷ [])
     ++ flag_rule (codes "strict") ∷ []
 
--- the subcommand on scripts of this name, with the options of the sizes
+-- the subcommand on scripts of this name, with the options of the sizes and choices
 abbrev pub sized_shape : List ℕ → Shape
-sized_shape name = record (new_shape name) { rules = size_rules }
+sized_shape name = record (new_shape name) { rules = zone_rules }
 
 -- the subcommand of this name that answers scripts, with its options
 abbrev pub command_shape : List ℕ → Shape
@@ -74,11 +81,11 @@ replay_shape = record (command_shape (codes "replay")) {
       ++ flag_rule (codes "steps") ∷ [];
 }
 
--- `serve`, which has three more options than the sizes
+-- `serve`, which has three more options than the sizes and choices
 abbrev pub serve_shape : Shape
 serve_shape = record (sized_shape (codes "serve")) {
   rules =
-      ((size_rules ++ flag_rule (codes "audit") ∷ []) ++ flag_rule (codes "explain") ∷ [])
+      ((zone_rules ++ flag_rule (codes "audit") ∷ []) ++ flag_rule (codes "explain") ∷ [])
       ++ flag_rule (codes "steps") ∷ [];
 }
 
@@ -127,6 +134,16 @@ infixl 10 ◌>>=◌
 abbrev ◌>>=◌ : {A B : Type 0} → Option A → (A → Option B) → Option B
 o >>= f = option_and_then f o
 
+-- each choice is the value of its own option
+abbrev pub choices_in : List Row → Option Choices
+choices_in found = do
+  reclaim_batch ← size_in (codes "reclaim-batch") most_reclaim_batch found
+  Some (record {
+    is_fair = is_given (codes "fair") found;
+    is_no_kill = is_given (codes "no-kill") found;
+    reclaim_batch = reclaim_batch;
+  })
+
 -- each size is the value of its own option
 abbrev pub sizes_in : List Row → Option Config
 sizes_in found = do
@@ -135,7 +152,8 @@ sizes_in found = do
   batch ← size_in (codes "batch") most_batch found
   high ← size_in (codes "high") most_high found
   stock ← size_in (codes "stock") most_stock found
-  Some (record { frames = frames; cpus = cpus; batch = batch; high = high; stock = stock })
+  choices ← choices_in found
+  Some (record { frames = frames; cpus = cpus; batch = batch; high = high; stock = stock; choices = choices })
 
 -- whether a flag is given that both subcommands that answer scripts have
 abbrev pub has_task_flag : List Row → Bool
@@ -190,7 +208,7 @@ script_options_under name found = do
 abbrev pub bare_options : Task → Options
 bare_options task = record {
   task = task;
-  sizes = record { frames = 16; cpus = 2; batch = 4; high = 8; stock = 4 };
+  sizes = record { frames = 16; cpus = 2; batch = 4; high = 8; stock = 4; choices = no_choices };
   is_audited = false;
   is_numbered = false;
   is_strict = false;

@@ -20,6 +20,7 @@ use std::alloc::{AllocError, Global};
 use std::convert::AsStr;
 use std::rt::Env;
 use std::{env, io};
+use zone_blocks::choices::Choices;
 use zone_blocks::config::Config;
 
 /// The program's version.
@@ -53,6 +54,13 @@ const HIGH_HELP: &str = "Frames at which a CPU's list returns some to the zone, 
 
 const STOCK_HELP: &str = "Pages that a CPU charges ahead, 1 to 64";
 
+const RECLAIM_BATCH_HELP: &str =
+    "Pages that a round of reclaim wants at least for a charge, 1 to 64";
+
+const NO_KILL_HELP: &str = "Kills nobody: a charge without room is refused";
+
+const FAIR_HELP: &str = "Begins each pass of reclaim after the group of the last turn";
+
 const AUDIT_HELP: &str = "Reports at the end which pins were held, and the counts";
 
 const NUMBERED_HELP: &str = "Begins each line of an answer with the number of its script line";
@@ -69,13 +77,22 @@ const STEPS_HELP: &str =
     "Writes the steps of the lines as a log, with the answers as comments, in place of the answers";
 
 // The options of the sizes: name, help, greatest value and default.
-const SIZES: [(&str, &str, u32, &str); 5] = [
+const SIZES: [(&str, &str, u32, &str); 6] = [
     ("frames", FRAMES_HELP, Config::MAX_FRAMES, "16"),
     ("cpus", CPUS_HELP, Config::MAX_CPUS, "2"),
     ("batch", BATCH_HELP, Config::MAX_BATCH, "4"),
     ("high", HIGH_HELP, Config::MAX_HIGH, "8"),
     ("stock", STOCK_HELP, Config::MAX_STOCK, "4"),
+    (
+        "reclaim-batch",
+        RECLAIM_BATCH_HELP,
+        Choices::MAX_RECLAIM_BATCH,
+        "1",
+    ),
 ];
+
+// The options of the choices that have no value, with their help.
+const CHOICE_FLAGS: [(&str, &str); 2] = [("no-kill", NO_KILL_HELP), ("fair", FAIR_HELP)];
 
 // The options without a value that both subcommands that answer scripts have, with their help.
 const TASK_FLAGS: [(&str, &str); 3] = [
@@ -120,14 +137,15 @@ pub fn words<R: Env + AllocGlobal>(rt: &R) -> Result<Vec<String>, WordsFault> {
 }
 
 /// Parses the words after the program's name. They are `replay`, `run`, `lint` or `serve`, then any of `--frames`,
-/// `--cpus`, `--batch`, `--high` and `--stock`. After `replay` and `run` there may also be `--audit`, `--numbered` and
-/// `--strict`, and after `replay` `--explain` and `--check`. After `replay` there may be `--steps` instead of these
-/// five. After `serve` there may be `--audit` and `--explain`, or `--steps` instead. Each is given at most once. Or the words
-/// are `check`, alone or with `--all`, or `--version` or `-V` alone. Anything else is a fault of the words, even a request
-/// for help.
+/// `--cpus`, `--batch`, `--high`, `--stock`, `--reclaim-batch`, `--no-kill` and `--fair`. After `replay` and `run`
+/// there may also be `--audit`, `--numbered` and `--strict`, and after `replay` `--explain` and `--check`. After
+/// `replay` there may be `--steps` instead of these five. After `serve` there may be `--audit` and `--explain`, or
+/// `--steps` instead. Each is given at most once. Or the words are `check`, alone or with `--all`, or `--version` or
+/// `-V` alone. Anything else is a fault of the words, even a request for help.
 ///
 /// A size is a whole number in its own range: 1 to 1,048,576 frames, 1 to 64 CPUs, batch 1 to 64, high 1 to 256,
-/// stock 1 to 64. `Config::is_valid` requires more: high is at least batch. The defaults are 16, 2, 4, 8 and 4.
+/// stock 1 to 64, reclaim-batch 1 to 64. `Config::is_valid` requires more: high is at least batch. The defaults are 16,
+/// 2, 4, 8, 4 and 1.
 pub fn options<S: AsStr>(alloc: Global, words: &[S]) -> Result<Options, WordsFault>
     ensures asked { GivesOptions (options_of (map S.text words.now)) result }
     ensures in_range { IfOk result (λ o. HasSizesInRange o.sizes) }
@@ -356,7 +374,7 @@ fn replay_command<'a>(alloc: Global) -> Result<Command<'a>, AllocError>
     with_flags(alloc, command, &REPLAY_FLAGS)
 }
 
-// `serve`, which has three more options than the sizes.
+// `serve`, which has three more options than the sizes and choices.
 fn serve_command<'a>(alloc: Global) -> Result<Command<'a>, AllocError>
     ensures shape { IfOk result (λ command. (app_of command).top ≡ serve_shape) }
     ensures local { IfOk result (λ command. (fields_of command).has_globals ≡ false) }
@@ -383,13 +401,14 @@ fn subcommand<'a>(alloc: Global, name: &'a str, about: &'a str) -> Result<Comman
     with_flags(alloc, command, &TASK_FLAGS)
 }
 
-// A subcommand on scripts, with the options of the sizes.
+// A subcommand on scripts, with the options of the sizes and choices.
 fn sized<'a>(alloc: Global, name: &'a str, about: &'a str) -> Result<Command<'a>, AllocError>
     ensures shape { IfOk result (λ command. (app_of command).top ≡ sized_shape name.entry.now) }
     ensures local { IfOk result (λ command. (fields_of command).has_globals ≡ false) }
 {
     let command = Command::new(alloc, name).about(about);
-    with_sizes(alloc, command, &SIZES)
+    let command = with_sizes(alloc, command, &SIZES)?;
+    with_flags(alloc, command, &CHOICE_FLAGS)
 }
 
 // The command with these options, each with its help, which have no values.

@@ -3,12 +3,15 @@
 ghost use Rattle.std.specs.Prelude.{◌≡◌, ◌≤◌, IfSome, codes, option_and_then};
 ghost use Rattle.clap.specs.Words.{found_of, rows_of, subcommand_rows_of};
 ghost use Rattle.load_options.specs.Sizes.{HasSizesInRange};
-ghost use Rattle.load_options.specs.Words.{answering_task, bare_options, has_other_flag, has_task_flag, is_given, number_kept};
+ghost use Rattle.zone_blocks.specs.Config.{AreValidChoices};
+ghost use Rattle.load_options.specs.Words.{answering_task, bare_options, choices_in, has_other_flag, has_task_flag};
+ghost use Rattle.load_options.specs.Words.{is_given, number_kept};
 ghost use Rattle.load_options.specs.Words.{options_under, replay_task_in, script_options_under, size_in, sizes_in};
 ghost use Rattle.load_options.specs.Words.{serve_task_in, task_in};
 ghost use Rattle.load_options.specs.declared.task.Task.TheVariants.{Check};
 
 use clap::ArgMatches;
+use zone_blocks::choices::Choices;
 use zone_blocks::config::Config;
 
 /// What the program does with its input, with the options of this task alone.
@@ -65,6 +68,7 @@ const DEFAULT_SIZES: Config = Config {
     batch: 4,
     high: 8,
     stock: 4,
+    choices: Choices::NONE,
 };
 
 // `--version` takes no options.
@@ -200,6 +204,19 @@ fn sizes(given: &ArgMatches<'_>) -> Option<Config>
         batch: size(given, "batch", Config::MAX_BATCH)?,
         high: size(given, "high", Config::MAX_HIGH)?,
         stock: size(given, "stock", Config::MAX_STOCK)?,
+        choices: choices(given)?,
+    })
+}
+
+// How the zone reclaims, and whether it kills.
+fn choices(given: &ArgMatches<'_>) -> Option<Choices>
+    ensures asked { result ≡ choices_in (rows_of (found_of given.now)) }
+    ensures in_range { IfSome result AreValidChoices }
+{
+    Some(Choices {
+        is_fair: is_set(given, "fair"),
+        is_no_kill: is_set(given, "no-kill"),
+        reclaim_batch: size(given, "reclaim-batch", Choices::MAX_RECLAIM_BATCH)?,
     })
 }
 

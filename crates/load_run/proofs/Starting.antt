@@ -80,6 +80,7 @@ watched_first t m watch first = record {
   killed = first.killed;
   counts = first.counts;
   notes = first.notes;
+  last_turn = first.last_turn;
   past = first.past;
 }
 

@@ -1,5 +1,6 @@
 -- What the steps of a script are as a log: the sizes; then of each line its part of the log; then that of the end.
-use Rattle.std.specs.Prelude.{◌≡◌, ℕ, ◌-◌, ◌==◌, if◌then◌else◌, true, List, [], ◌∷◌, ◌++◌, codes, decimal, get_or}
+use Rattle.std.specs.Prelude.{◌≡◌, ℕ, ◌-◌, ◌==◌, if◌then◌else◌, Bool, true, List, [], ◌∷◌, ◌++◌, codes, decimal, get_or}
+use Rattle.zone_blocks.specs.declared.choices.Choices.{Choices}
 use Rattle.zone_blocks.specs.declared.config.Config.{Config}
 use Rattle.step_rules.specs.After.{Run}
 use Rattle.boot_words.specs.{zone_of_boot, KnownTable}
@@ -15,11 +16,25 @@ use Rattle.load_run.specs.declared.boot_end.BootEnd.{BootEnd}
 use Rattle.load_run.specs.Ending.{EndsHeld, IsWholeRun, boot_end_text, last_words}
 use Rattle.load_run.specs.Starting.{IsNewBootState}
 
--- the comment that a log of ours is known by: the sizes of the boot that the zone's line doesn't have
+-- the text of the batch of reclaim, if the boot chose one
+abbrev pub batch_text : ℕ → List ℕ
+batch_text batch = if batch == 1 then [] else codes " reclaim-batch " ++ decimal batch
+
+-- the name of a choice that has no value, if the boot makes it
+abbrev pub choice_text : (is_made : Bool) → List ℕ → List ℕ
+choice_text is_made name = if is_made then name else []
+
+-- the text with the choices that the boot makes
+abbrev pub with_choices : List ℕ → Choices → List ℕ
+with_choices text choices =
+    ((text ++ batch_text choices.reclaim_batch) ++ choice_text choices.is_no_kill (codes " no-kill"))
+    ++ choice_text choices.is_fair (codes " fair")
+
+-- the comment that a log of ours is known by: the sizes of the boot that the zone's line doesn't have, and its choices
 abbrev pub sizes_comment : Config → List ℕ
 sizes_comment sizes =
-    codes "# memcg batch " ++ (decimal sizes.batch ++ (codes " high " ++ (decimal sizes.high ++ (codes " stock "
-    ++ (decimal sizes.stock ++ codes "\n")))))
+    with_choices (codes "# memcg batch " ++ (decimal sizes.batch ++ (codes " high " ++ (decimal sizes.high
+    ++ (codes " stock " ++ decimal sizes.stock))))) sizes.choices ++ codes "\n"
 
 -- what a log of a boot with these sizes begins with: the zone's line, and the comment with the other sizes
 abbrev pub log_head_text : Config → List ℕ

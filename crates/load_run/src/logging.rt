@@ -2,13 +2,14 @@
 //! follows them in comments.
 
 ghost use Rattle.std.specs.Prelude.{◌≡◌, ◌++◌, All, IfOk, OnOk, codes, length, map, true};
+ghost use Rattle.std.specs.String.{string_bytes};
 ghost use Rattle.script_lines.specs.Script.{texts_of};
 ghost use Rattle.script_replay.specs.{system_state, LineInRange, terms};
 ghost use Rattle.step_watch.specs.Watched.{has_whole_log, log_text};
 ghost use Rattle.line_server.specs.Logs.{AddsPart, answer_comments};
 ghost use Rattle.load_run.specs.Ending.{boot_end_text};
 ghost use Rattle.load_run.specs.Logs.{AreLoggedSteps, GrowsBy, LogsAll, LogsEnd, log_head_text};
-ghost use Rattle.load_run.specs.Logs.{sizes_comment, text_at, text_of_line};
+ghost use Rattle.load_run.specs.Logs.{batch_text, choice_text, sizes_comment, text_at, text_of_line, with_choices};
 
 use crate::boot_end::{BootEnd, empty_cpus, write_boot_end};
 use cpu_part::{BootName, Tables};
@@ -19,6 +20,7 @@ use script_lines::line::Line;
 use script_lines::script::first_line;
 use std::alloc::{AllocError, Global};
 use step_watch::Watch;
+use zone_blocks::choices::Choices;
 use zone_blocks::config::Config;
 
 // Adds the comment with the sizes of the boot that the zone's line doesn't have.
@@ -29,8 +31,36 @@ fn add_sizes(alloc: Global, sizes: &Config, log: &mut Vec<u8>) -> Result<(), All
     let batch = sizes.batch;
     let high = sizes.high;
     let stock = sizes.stock;
-    writeln!(text, "# memcg batch {batch} high {high} stock {stock}")?;
+    write!(text, "# memcg batch {batch} high {high} stock {stock}")?;
+    write_choices(&sizes.choices, &mut text)?;
+    text.push_str("\n")?;
     log.extend_from_slice(text.as_bytes())
+}
+
+// Writes the batch of reclaim, if the boot chose one.
+fn write_batch(batch: u32, text: &mut String) -> Result<(), AllocError>
+    ensures { OnOk result (string_bytes text.new ≡ string_bytes text.old ++ batch_text batch) }
+{
+    if batch == 1 {
+        return Ok(());
+    }
+    write!(text, " reclaim-batch {batch}")
+}
+
+// Writes the name of a choice that has no value, if the boot makes it.
+fn write_flag(is_made: bool, name: &str, text: &mut String) -> Result<(), AllocError>
+    ensures { OnOk result (string_bytes text.new ≡ string_bytes text.old ++ choice_text is_made name.now) }
+{
+    text.push_str(if is_made { name } else { "" })
+}
+
+// Writes the choices that the boot makes.
+fn write_choices(choices: &Choices, text: &mut String) -> Result<(), AllocError>
+    ensures { OnOk result (string_bytes text.new ≡ with_choices (string_bytes text.old) choices.now) }
+{
+    write_batch(choices.reclaim_batch, text)?;
+    write_flag(choices.is_no_kill, " no-kill", text)?;
+    write_flag(choices.is_fair, " fair", text)
 }
 
 // The text of the line of this number, from 1; nothing if there is none.

@@ -17,6 +17,7 @@ use mem_core::holds::is_unheld;
 use std::alloc::Global;
 use step_rules::phase::Hold;
 use step_rules::step::{Answer, Step};
+use zone_blocks::choices::Choices;
 use zone_blocks::config::Config;
 
 /// The checker, once the sizes of the zone are known, and how many steps it was asked to take.
@@ -74,6 +75,7 @@ impl Progress {
             batch: 1,
             high: 1,
             stock: 1,
+            choices: Choices::NONE,
         };
         match Checker::new(alloc, config) {
             Ok(checker) => {

@@ -1,5 +1,5 @@
 -- A stock that is drained stays drained while room is made. Serves `fill_one`.
-use Rattle.std.proofs.Common.{ℕ, Option, Some, List, [], ◌∷◌, refl, sym, subst, inl, inr}
+use Rattle.std.proofs.Common.{ℕ, Bool, true, false, Option, Some, List, [], ◌∷◌, refl, sym, subst, inl, inr}
 use Rattle.std.proofs.lemmas.Bool.{cases_Bool, cases_lt}
 use Rattle.boot_words.specs.Pasts.{IsHeld}
 use Rattle.step_rules.specs.After.{Run}
@@ -9,7 +9,7 @@ use Rattle.mem_machine.proofs.StocksKept.{drained_kept}
 use Rattle.mem_reclaim.specs.declared.sets.Killed.{Killed}
 use Rattle.mem_reclaim.proofs.Grown.{held_after}
 use Rattle.mem_reclaim.proofs.LettingGo.{drains_leave}
-use Rattle.mem_alloc.specs.Kills.{KillsVictims, KillsForRoom, has_room_at, with_oom_noted_at}
+use Rattle.mem_alloc.specs.Kills.{KillsVictims, KillsForRoom, UnlessNoKill, has_room_at, with_oom_noted_at}
 use Rattle.mem_alloc.specs.Room.{ClearsBelow, KillsForFewPages, RelievesLimit, with_max_noted_at}
 
 -- each drained stock stays drained
@@ -47,6 +47,12 @@ few t r g pages m n steps held k = elim (cases_lt 8 pages) [
   | inr low ↦ kills (Some r) t g pages m n steps held (k.few low)
 ]
 
+-- so do kills that the boot may not allow
+unless : (no_kill : Bool) (t : KnownTable) (r g pages : ℕ) (m n : KnownMachine) (steps : Run) → IsHeld t m.run.past
+    → UnlessNoKill no_kill (KillsForFewPages r g pages) (transition t m steps n) → StaysDrained t m n
+unless false t r g pages m n steps held k = few t r g pages m n steps held k
+unless true t r g pages m n steps held k = stays t m steps n k
+
 pub relieves_drained : (t : KnownTable) (r g pages : ℕ) (m n : KnownMachine) (steps : Run) → IsHeld t m.run.past
     → RelievesLimit r g pages (transition t m steps n) → StaysDrained t m n
 relieves_drained t r g pages m n steps held h p was =
@@ -55,5 +61,5 @@ relieves_drained t r g pages m n steps held h p was =
     let y = next.between in
     let held_x = held_after t m h.earlier x h.first.runs held in
     let held_y = held_after t x next.earlier y next.first.moves.runs held_x in
-    few t r g pages y n next.later held_y next.second p
+    unless t.choices.is_no_kill t r g pages y n next.later held_y next.second p
     (subst HasDrained (sym (next.first.keeps.stocks p)) (clears t g pages m x h.earlier held h.first p was))

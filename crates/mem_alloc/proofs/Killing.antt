@@ -17,12 +17,12 @@ use Rattle.step_rules.specs.{sum_to, Run}
 use Rattle.group_charge.specs.declared.note.Note.TheVariants as notes
 use Rattle.boot_words.specs.Tables.{KnownTable}
 use Rattle.mem_machine.specs.{IsConsistent, KnownMachine, is_killed, with_run, with_note, Makes, StaysVisited, note_oom_steps, BySteps, MachineStays}
-use Rattle.mem_machine.specs.{transition, KnownRun}
+use Rattle.mem_machine.specs.{Transition, transition, KnownRun}
 use Rattle.mem_reclaim.specs.declared.sets.Killed.{Killed}
 use Rattle.mem_reclaim.specs.{IsKilledBy, OnlyDrains, OnlyReleases, with_all_killed, IsKilledRoot, kill_set, IsVictim}
 use Rattle.mem_reclaim.proofs.Choosing.{chosen_there}
 use Rattle.mem_reclaim.proofs.Dying.{victims_die}
-use Rattle.mem_alloc.specs.{NeedsRoom, KillsVictims, KillsForRoom, KillsOneVictim, has_room_at, with_oom_noted_at, KillsForFewPages, RelievesLimit}
+use Rattle.mem_alloc.specs.{NeedsRoom, KillsVictims, KillsForRoom, KillsOneVictim, has_room_at, with_oom_noted_at, KillsForFewPages, KillsIfAllowed, RelievesLimit, UnlessNoKill}
 use Rattle.mem_alloc.proofs.Lowering.{Lowers, lowers_none, lowers_both, clears_lower, keeps_lower, sum_less}
 use Rattle.mem_machine.proofs.Followed.{makes_both, makes_none}
 use Rattle.mem_machine.proofs.Made.{visit_same}
@@ -82,11 +82,21 @@ kills_lower r t g pages m n steps k = elim (cases_Bool (has_room_at m.ledger g p
       lowers_both t m x n (oom_lowers t m g h.seen) (each_lowers r t g pages h.victims x n h.killing h.kills)
 ]
 
-pub few_lower : (t : KnownTable) (r g pages : ℕ) (m n : KnownMachine) (steps : Run) → KillsForFewPages r g pages (transition t m steps n) → Lowers t m n
+few_lower : (t : KnownTable) (r g pages : ℕ) (m n : KnownMachine) (steps : Run) → KillsForFewPages r g pages (transition t m steps n) → Lowers t m n
 few_lower t r g pages m n steps k = elim (cases_lt 8 pages) [
   | inl many ↦ stays_lower t m n steps (k.many many)
   | inr few ↦ kills_lower (Some r) t g pages m n steps (k.few few)
 ]
+
+-- so do kills that the boot may not allow
+unless_lower : (no_kill : Bool) (t : KnownTable) (r g pages : ℕ) (m n : KnownMachine) (steps : Run)
+    → UnlessNoKill no_kill (KillsForFewPages r g pages) (transition t m steps n) → Lowers t m n
+unless_lower false t r g pages m n steps k = few_lower t r g pages m n steps k
+unless_lower true t r g pages m n steps k = stays_lower t m n steps k
+
+pub allowed_lower : (t : KnownTable) (r g pages : ℕ) (m n : KnownMachine) (steps : Run)
+    → KillsIfAllowed (KillsForFewPages r g pages) (transition t m steps n) → Lowers t m n
+allowed_lower t r g pages m n steps k = unless_lower t.choices.is_no_kill t r g pages m n steps k
 
 pub relieves_lower : (t : KnownTable) (r g pages : ℕ) (m n : KnownMachine) (steps : Run) → RelievesLimit r g pages (transition t m steps n)
     → Lowers t m n
@@ -94,7 +104,7 @@ relieves_lower t r g pages m n steps h =
     let x = h.between in
     let y = h.second.between in
     lowers_both t m x n (clears_lower t g pages m x h.earlier h.first)
-    (lowers_both t x y n (keeps_lower t x y h.second.first.keeps) (few_lower t r g pages y n h.second.later h.second.second))
+    (lowers_both t x y n (keeps_lower t x y h.second.first.keeps) (allowed_lower t r g pages y n h.second.later h.second.second))
 
 pub relieving_lowers : (t : KnownTable) (r g pages : ℕ) (m n : KnownMachine) → BySteps Makes t (RelievesLimit r g pages) m n → Lowers t m n
 relieving_lowers t r g pages m n b = relieves_lower t r g pages m n b.steps b.does
@@ -266,6 +276,24 @@ pub many_rest : (t : KnownTable) (r g pages : ℕ) (m : KnownMachine) → 8 < pa
 many_rest t r g pages m many = record {
   steps = [];
   does = record { few = λ few. absurd (omega (arith, few, many)); many = λ _. record { machine = refl; steps_are = refl } };
+  makes = makes_none t m;
+}
+
+-- ---- kills that the boot allows, or doesn't
+
+pub kills_allowed : (t : KnownTable) (Kills : Transition KnownMachine → Type 0) (m n : KnownMachine) → t.choices.is_no_kill ≡ false
+    → BySteps Makes t Kills m n → BySteps Makes t (KillsIfAllowed Kills) m n
+kills_allowed t Kills m n allowed b = record {
+  steps = b.steps;
+  does = subst (λ (no : Bool). UnlessNoKill no Kills (transition t m b.steps n)) (sym allowed) b.does;
+  makes = b.makes;
+}
+
+pub kills_nobody : (t : KnownTable) (Kills : Transition KnownMachine → Type 0) (m : KnownMachine) → t.choices.is_no_kill ≡ true
+    → BySteps Makes t (KillsIfAllowed Kills) m m
+kills_nobody t Kills m chosen = record {
+  steps = [];
+  does = subst (λ (no : Bool). UnlessNoKill no Kills (transition t m [] m)) (sym chosen) (record { machine = refl; steps_are = refl });
   makes = makes_none t m;
 }
 

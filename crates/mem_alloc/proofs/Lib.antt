@@ -12,3 +12,4 @@ pub mod Calm
 pub mod CallerLemmas
 pub mod ComingLast
 pub mod KillLaws
+pub mod Refused

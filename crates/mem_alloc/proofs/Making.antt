@@ -1,9 +1,10 @@
 -- Charges that are refused, one after the other. Serves the loops of `fill_one` and `charge_block`.
-use Rattle.std.proofs.Common.{◌≡◌, ℕ, ◌+◌, Bool, false, Option, None, List, [], ◌∷◌, ◌++◌, refl, sym, ap, ◌∙◌, subst}
-use Rattle.std.specs.Prelude.{Result, Ok, Err, IsErr, IfErr, IfOk, MatchResult}
-use Rattle.std.proofs.lemmas.Bool.{false≢true}
+use Rattle.std.proofs.Common.{◌≡◌, ℕ, ◌+◌, ◌<◌, Bool, false, Option, Some, None, List, [], ◌∷◌, ◌++◌, refl, sym, ap, ◌∙◌, subst}
+use Rattle.std.specs.Prelude.{nat_le, Result, Ok, Err, IsErr, IfErr, IfOk, MatchResult}
+use Rattle.std.proofs.lemmas.Bool.{false≢true, leb-false}
 use Rattle.std.proofs.lemmas.List.{append_assoc, append-nil}
 use Rattle.boot_words.specs.Pasts.{IsHeld}
+use Rattle.group_tree.specs.declared.group.Group.{Group}
 use Rattle.group_tree.specs.{limit_of, IsLowestOver, fits_limit}
 use Rattle.group_charge.specs.Charges.{current_of, with_max_noted}
 use Rattle.boot_words.specs.Tables.{KnownTable}
@@ -13,9 +14,10 @@ use Rattle.mem_machine.specs.{KnownMachine, is_killed, with_run, Makes, StaysVis
 use Rattle.mem_machine.specs.{note_max_steps, drain_stocks_steps, fill_steps, Fills, DrainsSubtree, DrainsAllBelow, AreDrained, BySteps, Transition}
 use Rattle.mem_machine.specs.{transition}
 use Rattle.mem_reclaim.specs.Wanted.{progress}
+use Rattle.mem_reclaim.specs.{FreesBySteps, ReclaimsRounds, pages_wanted, Keeps, MissedAll}
 use Rattle.mem_reclaim.proofs.Keeping.{keeps_none}
 use Rattle.mem_reclaim.proofs.Moving.{moves_rest}
-use Rattle.mem_alloc.specs.{AfterRoom, ClearsBelow, HasMadeRoom, IsRefusedAt, IsRefusedFor, IsRoomAnswer, ReclaimsHigh, KillsForFewPages, MakesRoom}
+use Rattle.mem_alloc.specs.{AfterRoom, ClearsBelow, HasMadeRoom, IsRefusedAt, IsRefusedFor, IsRoomAnswer, ReclaimsHigh, KillsForFewPages, KillsIfAllowed, MakesRoom}
 use Rattle.mem_alloc.specs.{PreparesCharge, ReclaimsBefore, ReclaimsFor, RelievesLimit, with_limit_noted, with_max_noted_at, ChargesOne, FillsStock}
 use Rattle.mem_alloc.specs.declared.faults.AllocFault.{AllocFault}
 use Rattle.mem_alloc.proofs.Lowering.{Lowers, keeps_lower, lowers_both, run_lowers}
@@ -57,7 +59,7 @@ clears_by t g pages back m y x n told noted noting_y drains drained =
 
 -- and then the rounds, and the kills
 pub relieves_by : (t : KnownTable) (r g pages : ℕ) (m x y n : KnownMachine) → BySteps Makes t (ClearsBelow g pages) m x → BySteps Makes t (ReclaimsFor g pages) x y
-    → BySteps Makes t (KillsForFewPages r g pages) y n → BySteps Makes t (RelievesLimit r g pages) m n
+    → BySteps Makes t (KillsIfAllowed (KillsForFewPages r g pages)) y n → BySteps Makes t (RelievesLimit r g pages) m n
 relieves_by t r g pages m x y n first next last = record {
   steps = first.steps ++ (next.steps ++ last.steps);
   does = record {
@@ -77,12 +79,32 @@ no_rounds t g pages m none = record {
   steps = [];
   does = record {
     freed = 0;
-    reclaims = subst (λ (o : Option ℕ). ReclaimsBefore o g pages (progress 0 m [] m)) (sym none) (record { no_page = refl; machine = refl; no_step = refl });
+    reclaims = subst (λ (o : Option ℕ). ReclaimsBefore o t.choices.reclaim_batch g pages (progress 0 m [] m)) (sym none) (record { no_page = refl; machine = refl; no_step = refl });
     missed = λ over. absurd (false≢true (sym over ∙ ap (λ (o : Option ℕ). fits_limit o (current_of m.ledger g + pages)) none));
     keeps = keeps_none t m;
     moves = moves_rest t m;
   };
   makes = makes_none t m;
+}
+
+-- there is one
+pub rounds_for : (t : KnownTable) (g pages limit batch freed : ℕ) (m n : KnownMachine) → limit_of m.ledger.groups g ≡ Some limit
+    → batch ≡ t.choices.reclaim_batch → FreesBySteps t freed m n (ReclaimsRounds g (pages_wanted batch g pages limit) 16)
+    → (limit < current_of n.ledger g + pages → MissedAll g m n) → Keeps t m n → BySteps Makes t (ReclaimsFor g pages) m n
+rounds_for t g pages limit batch freed m n is chosen leads missed keeps = record {
+  steps = leads.steps;
+  does = record {
+    freed = freed;
+    reclaims = subst (λ (x : Option ℕ × ℕ). ReclaimsBefore x.0 x.1 g pages (progress freed m leads.steps n)) (λ i. (sym is i, chosen i)) leads.does;
+    missed = λ over.
+        let here : limit_of n.ledger.groups g ≡ Some limit = ap (λ (l : List Group). limit_of l g) keeps.groups ∙ is in
+        let full : nat_le (current_of n.ledger g + pages) limit ≡ false =
+        sym (ap (λ (o : Option ℕ). fits_limit o (current_of n.ledger g + pages)) here) ∙ over in
+        missed (leb-false (current_of n.ledger g + pages) limit full);
+    keeps = keeps;
+    moves = leads.moves;
+  };
+  makes = leads.moves.runs;
 }
 
 -- charges that were refused, and then one more

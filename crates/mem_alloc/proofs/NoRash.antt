@@ -33,7 +33,7 @@ use Rattle.mem_reclaim.specs.{OnlyReleases, alive_in_subtree, group_kill_note, k
 use Rattle.mem_reclaim.proofs.KillSets.{kills_both}
 use Rattle.mem_reclaim.proofs.Grown.{held_after, misses_after, parts_after}
 use Rattle.mem_reclaim.proofs.LettingGo.{drains_leave, quiet_drains, settings_stay}
-use Rattle.mem_alloc.specs.{KillsVictims, KillsForRoom, KillsOneVictim, KillsUntilRoom, has_room_at, with_oom_noted_at, AfterRoom, ClearsBelow}
+use Rattle.mem_alloc.specs.{UnlessNoKill, KillsVictims, KillsForRoom, KillsOneVictim, KillsUntilRoom, has_room_at, with_oom_noted_at, AfterRoom, ClearsBelow}
 use Rattle.mem_alloc.specs.{IsRefusedAt, IsRefusedFor, IsRefusedAtSome, KillsForFewPages, MakesRoom, PreparesCharge, ReclaimsFor, RelievesLimit}
 use Rattle.mem_alloc.specs.{with_max_noted_at, MayKill, MayKillAfter, begins_with_kill, has_oom_note, is_oom_note}
 use Rattle.mem_alloc.specs.declared.faults.AllocFault.{AllocFault}
@@ -326,10 +326,12 @@ module _ (t : KnownTable) (MayAsk : List Group → ℕ → ℕ → Type 0) (s : 
       }
 
   may_kill : (r : Option ℕ) (g pages : ℕ) (killed : Killed) (made : Run) (m : KnownMachine) (steps : Run) (n : KnownMachine)
-      → MayAsk m.ledger.groups g pages → Ready g made m → KillsOneVictim r g pages killed (transition t m steps n) → MayKill MayAsk (transition t s made m) killed
-  may_kill r g pages killed made m steps n asked ready one = record {
+      → t.choices.is_no_kill ≡ false → MayAsk m.ledger.groups g pages → Ready g made m → KillsOneVictim r g pages killed (transition t m steps n)
+      → MayKill MayAsk (transition t s made m) killed
+  may_kill r g pages killed made m steps n allowed asked ready one = record {
     limited = g;
     need = pages;
+    allowed = allowed;
     asked = asked;
     over = one.needs_room.over;
     noted = ready.noted;
@@ -348,9 +350,10 @@ module _ (t : KnownTable) (MayAsk : List Group → ℕ → ℕ → Type 0) (s : 
   }
 
   tame_one : (r : Option ℕ) (g pages : ℕ) (killed : Killed) (made : Run) (m : KnownMachine) (steps : Run) (n : KnownMachine)
-      → MayAsk m.ledger.groups g pages → Ready g made m → KillsOneVictim r g pages killed (transition t m steps n) → Tame made m steps n
-  tame_one r g pages killed made m steps n asked ready one =
-      let may = may_kill r g pages killed made m steps n asked ready one in
+      → t.choices.is_no_kill ≡ false → MayAsk m.ledger.groups g pages → Ready g made m → KillsOneVictim r g pages killed (transition t m steps n)
+      → Tame made m steps n
+  tame_one r g pages killed made m steps n allowed asked ready one =
+      let may = may_kill r g pages killed made m steps n allowed asked ready one in
       let first = set_first (is_oom_group m.ledger.groups killed.killed_root) t g killed (with_note m (victim_note m g killed.victim one.kills.next))
       one.kills.steps n one.kills.kills in
       subst (λ (k : Run). Tame made m k n) (sym one.steps_are) (record {
@@ -360,14 +363,15 @@ module _ (t : KnownTable) (MayAsk : List Group → ℕ → ℕ → Type 0) (s : 
       })
 
   tame_each : (r : Option ℕ) (g pages : ℕ) (victims : List Killed) (made : Run) (m : KnownMachine) (steps : Run) (n : KnownMachine)
-      → MayAsk m.ledger.groups g pages → Ready g made m → KillsVictims r g pages victims (transition t m steps n) → Tame made m steps n
-  tame_each r g pages [] made m steps n asked ready each = tame_stays made m steps n each
-  tame_each r g pages (killed ∷ later) made m steps n asked ready each =
+      → t.choices.is_no_kill ≡ false → MayAsk m.ledger.groups g pages → Ready g made m → KillsVictims r g pages victims (transition t m steps n)
+      → Tame made m steps n
+  tame_each r g pages [] made m steps n allowed asked ready each = tame_stays made m steps n each
+  tame_each r g pages (killed ∷ later) made m steps n allowed asked ready each =
       let x = each.between in
       let first = each.earlier in
-      let one = tame_one r g pages killed made m first x asked ready each.first in
+      let one = tame_one r g pages killed made m first x allowed asked ready each.first in
       let still = subst (λ (l : List Group). MayAsk l g pages) (sym each.first.keeps.groups) asked in
-      let rest = tame_each r g pages later (made ++ first) x each.later n still (ready_more r g pages killed made m first x ready each.first) each.second in
+      let rest = tame_each r g pages later (made ++ first) x each.later n allowed still (ready_more r g pages killed made m first x ready each.first) each.second in
       subst (λ (k : Run). Tame made m k n) (sym each.steps_are) (tame_both made m x n first each.later one rest)
 
   -- where each part of a CPU stays, each stock of the subtree stays drained
@@ -377,9 +381,9 @@ module _ (t : KnownTable) (MayAsk : List Group → ℕ → ℕ → Type 0) (s : 
       (drained q low high (ap (λ (z : List Group × Part). of_subtree g z.0 z.1.stock.group) (λ i. (sym groups i, sym (stock q) i)) ∙ is))
 
   -- everything was tried, and one more `oom` is noted after that
-  tame_victims : (r : Option ℕ) (g pages : ℕ) (made : Run) (m : KnownMachine) (steps : Run) (n : KnownMachine) → MayAsk m.ledger.groups g pages
-      → Passes t s made m → AreDrained t g m → MissedAll g s m → KillsUntilRoom r g pages (transition t m steps n) → Tame made m steps n
-  tame_victims r g pages made m steps n asked since drained missed h =
+  tame_victims : (r : Option ℕ) (g pages : ℕ) (made : Run) (m : KnownMachine) (steps : Run) (n : KnownMachine) → t.choices.is_no_kill ≡ false
+      → MayAsk m.ledger.groups g pages → Passes t s made m → AreDrained t g m → MissedAll g s m → KillsUntilRoom r g pages (transition t m steps n) → Tame made m steps n
+  tame_victims r g pages made m steps n allowed asked since drained missed h =
       let x = with_run (with_oom_noted_at m g) h.seen in
       let note = passes_same t m x (note_oom_steps g) h.notes refl refl in
       let here = held_after t s made m since.runs held_there in
@@ -399,15 +403,22 @@ module _ (t : KnownTable) (MayAsk : List Group → ℕ → ℕ → Type 0) (s : 
       } in
       subst (λ (k : Run). Tame made m k n) (sym h.steps_are) (tame_both made m x n (note_oom_steps g) h.killing
       (tame_quiet made m (note_oom_steps g) x note refl refl)
-      (tame_each r g pages h.victims (made ++ note_oom_steps g) x h.killing n asked ready h.kills))
+      (tame_each r g pages h.victims (made ++ note_oom_steps g) x h.killing n allowed asked ready h.kills))
 
-  pub tame_kills : (r : Option ℕ) (g pages : ℕ) (made : Run) (m : KnownMachine) (steps : Run) (n : KnownMachine) → MayAsk m.ledger.groups g pages
-      → Passes t s made m → AreDrained t g m → (has_room_at m.ledger g pages ≡ false → MissedAll g s m)
+  pub tame_kills : (r : Option ℕ) (g pages : ℕ) (made : Run) (m : KnownMachine) (steps : Run) (n : KnownMachine) → t.choices.is_no_kill ≡ false
+      → MayAsk m.ledger.groups g pages → Passes t s made m → AreDrained t g m → (has_room_at m.ledger g pages ≡ false → MissedAll g s m)
       → KillsForRoom r g pages (transition t m steps n) → Tame made m steps n
-  tame_kills r g pages made m steps n asked since drained missed h = elim (cases_Bool (has_room_at m.ledger g pages)) [
+  tame_kills r g pages made m steps n allowed asked since drained missed h = elim (cases_Bool (has_room_at m.ledger g pages)) [
     | inl room ↦ tame_stays made m steps n (h.room room)
-    | inr over ↦ tame_victims r g pages made m steps n asked since drained (missed over) (h.over over)
+    | inr over ↦ tame_victims r g pages made m steps n allowed asked since drained (missed over) (h.over over)
   ]
+
+  -- kills that the boot may not allow
+  pub unless_tame : (no_kill : Bool) → t.choices.is_no_kill ≡ no_kill → (Kills : Transition KnownMachine → Type 0) (made : Run) (m : KnownMachine) (steps : Run) (n : KnownMachine)
+      → (t.choices.is_no_kill ≡ false → Kills (transition t m steps n) → Tame made m steps n) → UnlessNoKill no_kill Kills (transition t m steps n)
+      → Tame made m steps n
+  unless_tame false is Kills made m steps n tame h = tame is h
+  unless_tame true is Kills made m steps n tame h = tame_stays made m steps n h
 
   -- ---- a limit without room
 
@@ -430,12 +441,12 @@ module _ (t : KnownTable) (MayAsk : List Group → ℕ → ℕ → Type 0) (s : 
   reclaims_tame g pages made m steps n h =
       tame_quiet made m steps n (keeps_pass t m n steps h.moves.runs h.keeps) h.keeps.groups h.moves.no_kill
 
-  few_tame : (r g pages : ℕ) (made : Run) (m : KnownMachine) (steps : Run) (n : KnownMachine) → (pages ≤ 8 → MayAsk m.ledger.groups g pages)
+  few_tame : (r g pages : ℕ) (made : Run) (m : KnownMachine) (steps : Run) (n : KnownMachine) → t.choices.is_no_kill ≡ false → (pages ≤ 8 → MayAsk m.ledger.groups g pages)
       → Passes t s made m → AreDrained t g m → (has_room_at m.ledger g pages ≡ false → MissedAll g s m)
       → KillsForFewPages r g pages (transition t m steps n) → Tame made m steps n
-  few_tame r g pages made m steps n asked since drained missed h = elim (cases_lt 8 pages) [
+  few_tame r g pages made m steps n allowed asked since drained missed h = elim (cases_lt 8 pages) [
     | inl many ↦ tame_stays made m steps n (h.many many)
-    | inr few ↦ tame_kills (Some r) g pages made m steps n (asked few) since drained missed (h.few few)
+    | inr few ↦ tame_kills (Some r) g pages made m steps n allowed (asked few) since drained missed (h.few few)
   ]
 
   relieves_tame : (r g pages : ℕ) (made : Run) (m : KnownMachine) (steps : Run) (n : KnownMachine) → (pages ≤ 8 → MayAsk m.ledger.groups g pages)
@@ -450,8 +461,10 @@ module _ (t : KnownTable) (MayAsk : List Group → ℕ → ℕ → Type 0) (s : 
       let after_two = passes_both t s x y (made ++ h.earlier) next.earlier after_one two.passes in
       let drained = drained_on g x y next.first.keeps.groups next.first.keeps.stocks h.first.drained in
       let still = λ (few : pages ≤ 8). subst (λ (l : List Group). MayAsk l g pages) (sym (two.groups ∙ one.groups)) (asked few) in
-      let three = few_tame r g pages ((made ++ h.earlier) ++ next.earlier) y next.later n still after_two drained
-      (λ over. missed_since g (made ++ h.earlier) x y after_one (next.first.missed over)) next.second in
+      let done = (made ++ h.earlier) ++ next.earlier in
+      let three = unless_tame t.choices.is_no_kill refl (KillsForFewPages r g pages) done y next.later n
+      (λ allowed kills. few_tame r g pages done y next.later n allowed still after_two drained
+      (λ over. missed_since g (made ++ h.earlier) x y after_one (next.first.missed over)) kills) next.second in
       let rest = subst (λ (k : Run). Tame (made ++ h.earlier) x k n) (sym next.steps_are)
       (tame_both (made ++ h.earlier) x y n next.earlier next.later two three) in
       subst (λ (k : Run). Tame made m k n) (sym h.steps_are) (tame_both made m x n h.earlier h.later one rest)

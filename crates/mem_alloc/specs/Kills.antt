@@ -73,3 +73,12 @@ pub record KillsUntilRoom (requester : Option ℕ) (limited pages : ℕ) (call :
 pub record KillsForRoom (requester : Option ℕ) (limited pages : ℕ) (call : Transition KnownMachine) : Type 0 where
   pub room : has_room_at call.before.ledger limited pages ≡ true → MachineStays call
   pub over : has_room_at call.before.ledger limited pages ≡ false → KillsUntilRoom requester limited pages call
+
+-- these kills, unless the boot chose that no group is killed; then nothing is done
+abbrev pub UnlessNoKill : (is_no_kill : Bool) → (Transition KnownMachine → Type 0) → Transition KnownMachine → Type 0
+UnlessNoKill false Kills call = Kills call
+UnlessNoKill true Kills call = MachineStays call
+
+-- these kills, if the boot of the call allows any
+abbrev pub KillsIfAllowed : (Transition KnownMachine → Type 0) → Transition KnownMachine → Type 0
+KillsIfAllowed Kills call = UnlessNoKill call.table.choices.is_no_kill Kills call

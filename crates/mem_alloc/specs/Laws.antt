@@ -1,5 +1,5 @@
 -- What holds of each charge that kills and of each refill, whichever function makes it.
-use Rattle.std.specs.Prelude.{◌≡◌, ℕ, ◌+◌, ◌≤◌, ◌⊎◌, true, false, Option, Some, None, List, ◌∷◌, ◌++◌, length}
+use Rattle.std.specs.Prelude.{◌≡◌, ℕ, ◌+◌, ◌≤◌, ◌⊎◌, true, false, Option, Some, None, List, ◌∷◌, ◌++◌, length, Err}
 use Rattle.group_tree.specs.declared.group.Group.{Group}
 use Rattle.group_tree.specs.Groups.{in_subtree}
 use Rattle.group_charge.specs.Charges.{AreCharges}
@@ -10,14 +10,17 @@ use Rattle.step_rules.specs.declared.step.Action.TheVariants.{Kill}
 use Rattle.step_rules.specs.declared.step.Answer.{Answer}
 use Rattle.step_rules.specs.declared.step.Step.{Step}
 use Rattle.step_rules.specs.After.{Run}
+use Rattle.boot_words.specs.Pasts.{IsHeld}
 use Rattle.boot_words.specs.Tables.{KnownTable}
 use Rattle.mem_machine.specs.{IsConsistent, KnownMachine, home_of, VisitState, lock_holder, local_of, AreDrained, Transition}
 use Rattle.mem_machine.specs.Local.{IsLocalRun}
 use Rattle.mem_reclaim.specs.declared.sets.Killed.{Killed}
-use Rattle.mem_reclaim.specs.{kills_in, missed_in, IsKilledRoot, kill_set, IsVictim}
+use Rattle.mem_reclaim.specs.{kills_in, missed_in, IsKilledRoot, MissedAll, kill_set, IsVictim}
+use Rattle.mem_alloc.specs.declared.faults.AllocFault.TheVariants.{Over}
 use Rattle.mem_alloc.specs.Frames.{HasNoFreeFrame, LendsBatch}
 use Rattle.mem_alloc.specs.Kills.{IsAlive, KillsForRoom, has_room_at}
 use Rattle.mem_alloc.specs.NoRash.{IsChargedBelow, NoRashKill, has_oom_note}
+use Rattle.mem_alloc.specs.Room.{IsRefusedAt}
 
 -- By these first steps of a call, everything else was tried for the limit of the group `limited`, which has no room.
 -- The steps lead to a consistent machine, and each group keeps its memory.min. One of them notes `oom` there, and each stock of the subtree is drained. For
@@ -86,6 +89,21 @@ KillsEndInTime =
     → KillsForRoom requester limited pages call
     → (has_room_at call.after.ledger limited pages ≡ true)
     ⊎ ((¬ IsAlive requester call.after) ⊎ IsVictim call.after limited None)
+
+-- After this call everything but a kill was tried for the limit of the group `limited`, which still has no room for
+-- this many pages. Each stock of its subtree is drained. A freeze of each clean unit that the subtree still keeps
+-- missed in this call, or memory.min keeps it.
+pub record TriedAll (limited pages : ℕ) (call : Transition KnownMachine) : Type 0 where
+  pub over : has_room_at call.after.ledger limited pages ≡ false
+  pub drained : AreDrained call.table limited call.after
+  pub missed : MissedAll limited call.before call.after
+
+-- in a boot that allows no kills, a charge that is refused for a limit tried everything else
+abbrev pub RefusedChargesTriedAll : Type 0
+RefusedChargesTriedAll =
+    (requester limited pages named : ℕ) (call : Transition KnownMachine) → call.table.choices.is_no_kill ≡ true
+    → IsHeld call.table call.before.run.past → IsRefusedAt requester limited pages (Err (Over named)) call
+    → TriedAll limited pages call
 
 -- a refill adds a whole batch, or no frame is free after it
 abbrev pub RefillsAreWhole : Type 0

@@ -9,7 +9,8 @@ pub mod NoRash
 pub mod Laws
 pub mod KillLaws
 -- what other crates and the proofs import by one name, `Rattle.mem_alloc.specs`
-pub use Rattle.mem_alloc.specs.Kills.{IsAlive, KillsForRoom, KillsOneVictim, KillsUntilRoom, KillsVictims, NeedsRoom, has_room_at, with_oom_noted_at}
+pub use Rattle.mem_alloc.specs.Kills.{IsAlive, KillsForRoom, KillsIfAllowed, KillsOneVictim, KillsUntilRoom, KillsVictims, NeedsRoom, UnlessNoKill}
+pub use Rattle.mem_alloc.specs.Kills.{has_room_at, with_oom_noted_at}
 pub use Rattle.mem_alloc.specs.High.{ReclaimsHigh}
 pub use Rattle.mem_alloc.specs.Room.{AfterRoom, ClearsBelow, HasMadeRoom, IsRefusedAt, IsRefusedAtSome, IsRefusedFor, IsRoomAnswer, KillsForFewPages}
 pub use Rattle.mem_alloc.specs.Room.{MakesRoom, PreparesCharge, ReclaimsBefore, ReclaimsFor, RelievesLimit, with_limit_noted, with_max_noted_at}

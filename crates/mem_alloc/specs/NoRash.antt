@@ -47,14 +47,15 @@ pub record IsChargedBelow (group pages : ℕ) (groups : List Group) (limited nee
   pub few : pages ≤ most_killed_for
 
 -- After these steps of a call, the victim and all groups that die with it may be killed for the limit of the group
--- `limited`. The limit has no room for the needed pages, and a step noted `oom` there. Each stock of the subtree is
--- drained. Since the call began, a freeze of each clean unit that the subtree still keeps missed, or memory.min keeps
--- it. `killed` is the victim for this limit, with its killed root. The machine is consistent, its charges add up, and it
--- is the one that the steps left.
+-- `limited`. The boot allows kills. The limit has no room for the needed pages, and a step noted `oom` there. Each
+-- stock of the subtree is drained. Since the call began, a freeze of each clean unit that the subtree still keeps
+-- missed, or memory.min keeps it. `killed` is the victim for this limit, with its killed root. The machine is
+-- consistent, its charges add up, and it is the one that the steps left.
 pub record MayKill (MayAsk : List Group → ℕ → ℕ → Type 0) (call : Transition KnownMachine)
     (killed : Killed) : Type 0 where
   pub limited : ℕ
   pub need : ℕ
+  pub allowed : call.table.choices.is_no_kill ≡ false
   pub asked : MayAsk call.after.ledger.groups limited need
   pub over : has_room_at call.after.ledger limited need ≡ false
   pub noted : has_oom_note limited call.steps ≡ true

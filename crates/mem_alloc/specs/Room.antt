@@ -6,12 +6,12 @@ use Rattle.group_charge.specs.declared.note.Note.TheVariants.{Limit}
 use Rattle.step_rules.specs.After.{Run}
 use Rattle.mem_machine.specs.{KnownMachine, LacksRoom, is_killed, with_run, Makes, VisitState, visit_state, Drain, over_steps, note_max_steps}
 use Rattle.mem_machine.specs.{drain_stocks_steps, DrainsAllBelow, AreDrained, InTurn, MachineStays, OfMachineAlone, Transition, transition, KnownRun}
-use Rattle.mem_reclaim.specs.{FreesNothing, Reclaiming, progress, FreesPages, ReclaimsRounds, max_rounds, pages_missing, Keeps, MissedAll}
+use Rattle.mem_reclaim.specs.{FreesNothing, Reclaiming, progress, FreesPages, ReclaimsRounds, max_rounds, pages_wanted, Keeps, MissedAll}
 use Rattle.mem_alloc.specs.declared.faults.AllocFault.{AllocFault}
 use Rattle.mem_alloc.specs.declared.faults.AllocFault.TheVariants.{Over, NoFrames, RequesterKilled}
 use Rattle.mem_alloc.specs.High.{ReclaimsHigh}
 -- what is killed, and whether there is room
-pub use Rattle.mem_alloc.specs.Kills.{KillsForRoom, NeedsRoom, has_room_at, most_killed_for}
+pub use Rattle.mem_alloc.specs.Kills.{KillsForRoom, KillsIfAllowed, NeedsRoom, has_room_at, most_killed_for}
 
 -- the notes with one more, if the group has a limit: that the limit has no room for this many more pages
 abbrev pub limit_notes : Option ℕ → Ledger → ℕ → ℕ → KnownNotes → KnownNotes
@@ -45,18 +45,19 @@ pub record ClearsBelow (limited pages : ℕ) (call : Transition KnownMachine) : 
   pub runs : Makes call.table call.before call.steps call.after
 
 -- what is reclaimed from the group's subtree for this limit: nothing if there is no limit, else as many pages as are
--- missing, in at most `max_rounds` rounds
-abbrev pub ReclaimsBefore : Option ℕ → ℕ → ℕ → Reclaiming
-ReclaimsBefore None limited pages = FreesNothing
-ReclaimsBefore (Some limit) limited pages = ReclaimsRounds limited (pages_missing limited pages limit) max_rounds
+-- missing, in at most `max_rounds` rounds, each of which wants at least `batch` pages
+abbrev pub ReclaimsBefore : Option ℕ → (batch limited pages : ℕ) → Reclaiming
+ReclaimsBefore None batch limited pages = FreesNothing
+ReclaimsBefore (Some limit) batch limited pages =
+    ReclaimsRounds limited (pages_wanted batch limited pages limit) max_rounds
 
 -- Clean units of the group's subtree are freed in rounds, `freed` pages in all, until its limit has room for this many
--- pages. If it still has none, each clean unit that the subtree still keeps was tried and missed, or memory.min
--- keeps it.
+-- pages. Each round wants at least as many pages as the boot chose. If it still has none, each clean unit that the
+-- subtree still keeps was tried and missed, or memory.min keeps it.
 pub record ReclaimsFor (limited pages : ℕ) (call : Transition KnownMachine) : Type 0 where
   pub freed : ℕ
-  pub reclaims : ReclaimsBefore (limit_of call.before.ledger.groups limited) limited pages
-      (progress freed call.before call.steps call.after)
+  pub reclaims : ReclaimsBefore (limit_of call.before.ledger.groups limited) call.table.choices.reclaim_batch limited
+      pages (progress freed call.before call.steps call.after)
   pub missed : has_room_at call.after.ledger limited pages ≡ false → MissedAll limited call.before call.after
   pub keeps : Keeps call.table call.before call.after
   pub moves : FreesPages call.table call.before freed call.steps call.after
@@ -68,11 +69,11 @@ pub record KillsForFewPages (requester limited pages : ℕ) (call : Transition K
   pub many : most_killed_for < pages → MachineStays call
 
 -- The limit of the group `limited` had no room for this many pages. That is noted there as `max`, the stocks of its
--- subtree are drained, its units are reclaimed in rounds, and then its victims are killed.
+-- subtree are drained, its units are reclaimed in rounds, and then its victims are killed, if the boot allows that.
 abbrev pub RelievesLimit : ℕ → ℕ → ℕ → Transition KnownMachine → Type 0
 RelievesLimit requester limited pages call =
-    InTurn (ClearsBelow limited pages) (InTurn (ReclaimsFor limited pages) (KillsForFewPages requester limited pages))
-    call
+    InTurn (ClearsBelow limited pages)
+    (InTurn (ReclaimsFor limited pages) (KillsIfAllowed (KillsForFewPages requester limited pages))) call
 
 -- the limit of the group `limited` has room for this many pages, and the requester, the group that asks for them, isn't
 -- killed

@@ -1,9 +1,9 @@
 //! Kills: the last thing to do if a limit has no room and reclaim made none.
 
-ghost use Rattle.std.specs.Prelude.{◌≡◌, ◌↔◌, IsTrue};
+ghost use Rattle.std.specs.Prelude.{◌≡◌, ◌↔◌, IsTrue, None};
 ghost use Rattle.group_tree.specs.Groups.{has_group};
 ghost use Rattle.boot_words.specs.Pasts.{IsHeld};
-ghost use Rattle.mem_alloc.specs.Kills.{KillsForRoom, NeedsRoom, has_room_at};
+ghost use Rattle.mem_alloc.specs.Kills.{KillsForRoom, KillsIfAllowed, NeedsRoom, has_room_at};
 ghost use Rattle.mem_alloc.specs.Room.{KillsForFewPages};
 ghost use Rattle.mem_machine.specs.{Makes, StaysVisited, BySteps};
 
@@ -47,13 +47,13 @@ fn needs_room<N: BootName>(
     }
 }
 
-/// Kills for a limit. If the limit of `limited` has no room for this many more pages, that is noted once as `oom` at
-/// it. Then victims of it are killed, one after the other, until it has room, the group that asks for the pages is
-/// killed, or no victim is left. All groups that die with a victim (memory.oom.group) are killed before the next look
-/// at the limit. If `requester` is None, no group asks, as when a limit is written: with 0 `pages` there is room if the
-/// usage is at most the limit. If there is room, nothing is done. Modelled on what Linux does at a limit that it can't
-/// keep otherwise (cgroup-v2.rst, memory.max, memory.oom.group and memory.events).
-pub fn kill_for<N: BootName>(
+// Kills for a limit. If the limit of `limited` has no room for this many more pages, that is noted once as `oom` at
+// it. Then victims of it are killed, one after the other, until it has room, the group that asks for the pages is
+// killed, or no victim is left. All groups that die with a victim (memory.oom.group) are killed before the next look
+// at the limit. If `requester` is None, no group asks, as when a limit is written: with 0 `pages` there is room if the
+// usage is at most the limit. If there is room, nothing is done. Modelled on what Linux does at a limit that it can't
+// keep otherwise (cgroup-v2.rst, memory.max, memory.oom.group and memory.events).
+fn kill_for<N: BootName>(
     machine: &mut Machine<N>,
     tables: &Tables<N>,
     requester: Option<GroupId>,
@@ -84,7 +84,7 @@ pub fn kill_for<N: BootName>(
 }
 
 // Kills for a limit as `kill_for` does, if `requester` asks for at most 8 pages; for more, nobody is killed.
-pub(crate) fn kill_for_few_pages<N: BootName>(
+fn kill_for_few_pages<N: BootName>(
     machine: &mut Machine<N>,
     tables: &Tables<N>,
     requester: GroupId,
@@ -99,4 +99,49 @@ pub(crate) fn kill_for_few_pages<N: BootName>(
     if pages <= MAX_KILLED_FOR {
         kill_for(machine, tables, Some(requester), limited, pages);
     }
+}
+
+// Whether the boot chose that no group is killed.
+fn is_no_kill<N: BootName>(tables: &Tables<N>) -> bool
+    ensures { result ≡ N.table.choices.is_no_kill }
+{
+    tables.words.choices().is_no_kill
+}
+
+// Kills for a limit as `kill_for_few_pages` does, unless the boot chose that no group is killed.
+pub(crate) fn kill_for_charge<N: BootName>(
+    machine: &mut Machine<N>,
+    tables: &Tables<N>,
+    requester: GroupId,
+    limited: GroupId,
+    pages: u32,
+)
+    requires there { IsTrue (has_group machine.old.ledger.groups limited) }
+    requires held { IsHeld N.table machine.old.run.past }
+    ensures kills { BySteps Makes N.table (KillsIfAllowed (KillsForFewPages requester limited pages))
+        machine.old machine.new }
+    ensures visit { StaysVisited N.table machine.old machine.new }
+{
+    if is_no_kill(tables) {
+        return;
+    }
+    kill_for_few_pages(machine, tables, requester, limited, pages);
+}
+
+/// Kills for a limit that was written below the usage, as `kill_for` does if no group asks for pages, unless the boot
+/// chose that no group is killed.
+pub fn kill_for_limit<N: BootName>(
+    machine: &mut Machine<N>,
+    tables: &Tables<N>,
+    limited: GroupId,
+)
+    requires there { IsTrue (has_group machine.old.ledger.groups limited) }
+    requires held { IsHeld N.table machine.old.run.past }
+    ensures kills { BySteps Makes N.table (KillsIfAllowed (KillsForRoom None limited 0)) machine.old machine.new }
+    ensures visit { StaysVisited N.table machine.old machine.new }
+{
+    if is_no_kill(tables) {
+        return;
+    }
+    kill_for(machine, tables, None, limited, 0);
 }

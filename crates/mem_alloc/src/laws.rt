@@ -2,6 +2,7 @@
 
 ghost use Rattle.mem_alloc.specs.KillLaws.{ChargesKillOverLimits, ChargesKillWholeSets};
 ghost use Rattle.mem_alloc.specs.Laws.{ChargesKillLast, ChargesTryAllWithoutMin, KillsEndInTime, RefillsAreWhole};
+ghost use Rattle.mem_alloc.specs.Laws.{RefusedChargesTriedAll};
 
 /// A charge kills nobody before it tried everything else that memory.min doesn't keep.
 pub fn charges_kill_last()
@@ -27,6 +28,12 @@ pub fn charges_kill_over_limits()
 /// Kills for a limit don't stop while more kills could still help.
 pub fn kills_end_in_time()
     ensures { KillsEndInTime }
+{}
+
+/// If the boot allows no kills, a charge is refused for a limit only after everything else was tried: all stocks of the
+/// limit's subtree are drained, and each clean unit was tried that memory.min doesn't keep.
+pub fn refused_charges_tried_all()
+    ensures { RefusedChargesTriedAll }
 {}
 
 /// A refill adds as many frames as it may.

@@ -18,5 +18,5 @@ mod room;
 pub use blocks::alloc_block;
 pub use faults::AllocFault;
 pub use frames::alloc_frame;
-pub use kills::kill_for;
+pub use kills::kill_for_limit;
 pub use room::note_limit;

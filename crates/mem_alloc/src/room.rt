@@ -7,15 +7,16 @@ ghost use Rattle.mem_machine.specs.{Makes, StaysVisited, BySteps};
 ghost use Rattle.mem_alloc.specs.Room.{IsRoomAnswer, ReclaimsFor, RelievesLimit, with_limit_noted};
 
 use crate::faults::AllocFault;
-use crate::kills::{has_room_at, kill_for_few_pages};
+use crate::kills::{has_room_at, kill_for_charge};
 use cpu_part::{BootName, Tables};
 use group_charge::note::Note;
 use group_tree::group::GroupId;
 use mem_machine::{Machine, prove_number};
-use mem_reclaim::reclaim_to_limit;
+use mem_reclaim::reclaim_in_batches;
 use step_rules::step::NoteKey;
 
-// Reclaims in rounds from the subtree of the group, until its limit has room for this many pages.
+// Reclaims in rounds from the subtree of the group, until its limit has room for this many pages. Each round wants at
+// least as many pages as the boot chose (`reclaim_batch`).
 fn reclaim_for<N: BootName>(
     machine: &mut Machine<N>,
     tables: &Tables<N>,
@@ -28,7 +29,8 @@ fn reclaim_for<N: BootName>(
     ensures visit { StaysVisited N.table machine.old machine.new }
 {
     if let Some(limit) = machine.charges().max(limited) {
-        reclaim_to_limit(machine, tables, limited, pages, limit);
+        let batch = tables.words.choices().reclaim_batch;
+        reclaim_in_batches(machine, tables, limited, pages, limit, batch);
     }
 }
 
@@ -52,12 +54,13 @@ pub fn note_limit<N: BootName>(machine: &mut Machine<N>, group: GroupId, need: u
 // Relieves the limit of `limited`, the lowest on the path of `requester` without room for this many pages. It does
 // this in order, until there is room:
 // 1. The refusal is noted (`max`), and the stocks of the subtree are drained.
-// 2. Clean units of the subtree are reclaimed, in at most 16 rounds.
+// 2. Clean units of the subtree are reclaimed, in at most 16 rounds that each want at least `reclaim_batch` pages.
 // 3. For a charge of up to 8 pages (an order of at most 3), `oom` is noted, and victims of the subtree are killed. All
-//    groups that die with a victim are killed before the next look at the limit.
+//    groups that die with a victim are killed before the next look at the limit. If the boot chose that no group is
+//    killed, nothing of this is done.
 //
 // - `RequesterKilled`: the requester was killed, as a victim or with one.
-// - `Over`: there is still no room, and no victim is left, or the charge is of more than 8 pages.
+// - `Over`: there is still no room, and no victim is left, the charge is of more than 8 pages, or no group is killed.
 //
 // All that was done stays.
 pub(crate) fn make_room<N: BootName>(
@@ -79,7 +82,7 @@ pub(crate) fn make_room<N: BootName>(
     machine.note_event(tables, NoteKey::Max, limited);
     machine.drain_stocks(tables, limited);
     reclaim_for(machine, tables, limited, pages);
-    kill_for_few_pages(machine, tables, requester, limited, pages);
+    kill_for_charge(machine, tables, requester, limited, pages);
     if machine.is_killed(requester) {
         return Err(AllocFault::RequesterKilled);
     }

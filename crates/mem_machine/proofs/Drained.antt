@@ -154,6 +154,7 @@ module _ (t : KnownTable) (m : KnownMachine) (ok : IsConsistent t m) (q n : ℕ)
 
     pub drained_consistent : (l : Ledger) → l ≡ uncharged m.ledger o n → IsConsistent t (record m { ledger = l; run = run })
     drained_consistent l off = subst (λ (x : Ledger). IsConsistent t (record m { ledger = x; run = run })) (sym off) (record {
+      turns = ok.turns;
       sizes = record { frame_states = ok.sizes.frame_states; links = ok.sizes.links; lists = ok.sizes.lists; killed = ok.sizes.killed };
       areas = ok.areas;
       frame_states = ok.frame_states;
@@ -259,6 +260,7 @@ makes_noted t m n steps notes makes = record { holder = makes.holder; leads = ma
 pub noted_sound : {N : Type 0} (t : KnownTable) (fields : Inside N) (notes : KnownNotes) → IsSoundMachine t fields → IsSoundMachine {N = N} t (record fields { notes = notes })
 noted_sound {N} t fields notes ok = let was = ok.consistent in record {
   consistent = record {
+    turns = was.turns;
     sizes = record { frame_states = was.sizes.frame_states; links = was.sizes.links; lists = was.sizes.lists; killed = was.sizes.killed };
     areas = was.areas;
     frame_states = was.frame_states;

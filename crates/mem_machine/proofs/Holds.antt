@@ -37,6 +37,7 @@ module _ {N : Type 0} (t : KnownTable) (fields : Inside N) (ok : IsSoundMachine 
       let same : HaveSameBooks (local_of t (machine_of {N = N} fields)).parts (after_made (local_of t (machine_of {N = N} fields)) e).parts = record { book = λ k. ap (λ (x : State). (x.parts k).book) only; group = λ k. ap (λ (x : State). (x.parts k).stock.group) only } in
       record {
         consistent = record {
+          turns = was.turns;
           sizes = record { frame_states = was.sizes.frame_states; links = was.sizes.links; lists = was.sizes.lists; killed = was.sizes.killed };
           areas = was.areas;
           frame_states = was.frame_states;

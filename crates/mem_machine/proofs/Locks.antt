@@ -44,6 +44,7 @@ module _ {N : Type 0} (t : KnownTable) (fields : Inside N) (ok : IsSoundMachine 
   sound_then =
       let was = ok.consistent in record {
         consistent = record {
+          turns = was.turns;
           sizes = record { frame_states = was.sizes.frame_states; links = was.sizes.links; lists = was.sizes.lists; killed = was.sizes.killed };
           areas = was.areas;
           frame_states = was.frame_states;

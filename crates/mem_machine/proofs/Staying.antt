@@ -95,6 +95,7 @@ sound_same {N} t fields ok run left =
     let was = ok.consistent in
     let shown = was.shown in record {
       consistent = record {
+        turns = was.turns;
         sizes = record { frame_states = was.sizes.frame_states; links = was.sizes.links; lists = was.sizes.lists; killed = was.sizes.killed };
         areas = was.areas;
         frame_states = was.frame_states;

@@ -17,6 +17,7 @@ machine_of fields = record {
   killed = fields.killed.items;
   counts = fields.counts;
   notes = fields.notes;
+  last_turn = fields.last_turn;
   run = record { past = fields.past; watch = fields.watch };
 }
 

@@ -52,6 +52,7 @@ mod start;
 mod stepping;
 mod stocks;
 mod subtrees;
+mod turns;
 mod visits;
 mod watching;
 

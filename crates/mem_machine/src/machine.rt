@@ -11,11 +11,12 @@ use crate::frame_state::FrameState;
 use crate::owners::StockOwners;
 use crate::proving::prove_sizes;
 use crate::start::{Parts, new_parts};
+use crate::turns::initial_last_turn;
 use boot_words::PastSeat;
 use cpu_part::{BootName, Tables};
 use group_charge::charges::Charges;
 use group_charge::notes::Notes;
-use group_tree::group::MAX_GROUPS;
+use group_tree::group::{GroupId, MAX_GROUPS};
 use lru_lists::links::Links;
 use lru_lists::lru::Lru;
 use std::alloc::{AllocError, Global};
@@ -48,6 +49,8 @@ pub struct Machine<N: BootName> {
     // The notes since the last `forget_notes`: limits without room, what was tried there, which units were reclaimed,
     // and who was killed.
     pub(crate) notes: Notes,
+    // The group that had the last turn of a reclaim. None if turns don't go round, which the boot chose then.
+    pub(crate) last_turn: Option<GroupId>,
     // The zone's past, which has that of the lock's holder too while the lock is held.
     pub(crate) past: PastSeat,
     // Takes each step of the zone's seat and of the CPU that holds the lock, right after the step.
@@ -103,6 +106,7 @@ impl<N: BootName> Machine<N> {
                 misses: 0,
             },
             notes: parts.notes,
+            last_turn: initial_last_turn(tables),
             past,
             watch: Watch::off(),
             of: PhantomData,
@@ -125,6 +129,7 @@ impl<N: BootName> Machine<N> {
             killed,
             counts: _,
             notes,
+            last_turn: _,
             past,
             watch,
             of: _,

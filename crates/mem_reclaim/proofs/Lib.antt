@@ -15,3 +15,4 @@ pub mod KillSets
 pub mod Dying
 pub mod Rising
 pub mod Noted
+pub mod Turns

@@ -1,6 +1,7 @@
 -- What holds of every kill and every reclaim. The promise of memory.oom.group is that of cgroup-v2.rst: a flagged group
 -- is killed as a whole, or no group of it is.
-use Rattle.std.specs.Prelude.{◌≡◌, ℕ, ◌-◌, ◌<◌, ◌≤◌, ◌⊎◌, true, false, Option, Some, List, Contains}
+use Rattle.std.specs.Prelude.{◌≡◌, ℕ, ◌-◌, ◌<◌, ◌≤◌, ◌==◌, ◌⊎◌, true, false, Option, Some, List, Contains}
+use Rattle.std.specs.List.{count_by}
 use Rattle.group_tree.specs.{AreGroups, in_subtree, is_oom_group, max_count}
 use Rattle.group_charge.specs.Charges.{current_of}
 use Rattle.group_protection.specs.Protections.{IsKeptByMin, effective, min_key}
@@ -9,13 +10,13 @@ use Rattle.lru_lists.specs.Queue.{link_at}
 use Rattle.step_rules.specs.After.{Run}
 use Rattle.group_charge.specs.declared.note.Note.TheVariants as note
 use Rattle.boot_words.specs.Tables.{KnownTable}
-use Rattle.mem_machine.specs.Machines.{KnownMachine, home_of, with_note}
+use Rattle.mem_machine.specs.Machines.{IsConsistent, KnownMachine, home_of, with_note}
 use Rattle.mem_reclaim.specs.declared.sets.Killed.{Killed}
 use Rattle.mem_reclaim.specs.Killing.{IsKilledBy, kept_units}
 use Rattle.mem_reclaim.specs.Moves.{FreesPages, all_missed_in, missed_in, returned_in}
 use Rattle.mem_reclaim.specs.declared.passes.Pass.{Pass}
-use Rattle.mem_reclaim.specs.Passes.{TakesTurn}
-use Rattle.mem_reclaim.specs.Rounds.{ReclaimsRound}
+use Rattle.mem_reclaim.specs.Passes.{TakesTurn, turn_order}
+use Rattle.mem_reclaim.specs.Rounds.{ReclaimsRound, pages_missing, pages_wanted}
 use Rattle.mem_reclaim.specs.Sets.{IsKilledRoot, kill_set}
 use Rattle.mem_reclaim.specs.Staying.{MissedAll}
 use Rattle.mem_reclaim.specs.Victim.{IsVictim, may_be_killed, own_frames}
@@ -107,3 +108,20 @@ LoneKillsAreNotedAsMade =
     → (kill : IsKilledBy table limited killed before after) → is_oom_group before.ledger.groups
     killed.killed_root ≡ false
     → after.counts.last_puts < max_count → NotesKill limited killed.victim before kill.steps after
+
+-- each group of a pass has as many turns as by ascending number
+abbrev pub TurnsLeaveOutNoGroup : Type 0
+TurnsLeaveOutNoGroup =
+    (last : Option ℕ) (groups : List ℕ) (group : ℕ)
+    → count_by (λ number. number == group) (turn_order last groups) ≡ count_by (λ number. number == group) groups
+
+-- the turns of a pass come by ascending number, unless the boot chose that they go round
+abbrev pub TurnsAscendUnlessFair : Type 0
+TurnsAscendUnlessFair =
+    (table : KnownTable) (machine : KnownMachine) (groups : List ℕ) → IsConsistent table machine
+    → table.choices.is_fair ≡ false → turn_order machine.last_turn groups ≡ groups
+
+-- a round that has to want at least one page wants just the pages that are missing
+abbrev pub BatchesOfOneWantWhatIsMissing : Type 0
+BatchesOfOneWantWhatIsMissing =
+    (group need limit : ℕ) → pages_wanted 1 group need limit ≡ pages_missing group need limit

@@ -15,7 +15,8 @@ pub use Rattle.mem_reclaim.specs.Moves.{CountsMisses, FreesBySteps, FreesPages, 
 pub use Rattle.mem_reclaim.specs.Moves.{killed_by, kills_in, missed_in, misses_of, pages_freed_by, pages_returned, returned_in}
 pub use Rattle.mem_reclaim.specs.Units.{ScansList, TriesReclaim, TriesReclaimAs}
 pub use Rattle.mem_reclaim.specs.Passes.{AgesAndScans, PassesGroup, Reclaims, ReclaimsPass}
-pub use Rattle.mem_reclaim.specs.Rounds.{ReclaimsAmount, ReclaimsPages, ReclaimsRound, ReclaimsRounds, max_rounds, pages_missing, round_note}
+pub use Rattle.mem_reclaim.specs.Rounds.{ReclaimsAmount, ReclaimsPages, ReclaimsRound, ReclaimsRounds, max_rounds, pages_missing, pages_wanted}
+pub use Rattle.mem_reclaim.specs.Rounds.{round_note, at_least}
 pub use Rattle.mem_reclaim.specs.Staying.{IsDirtyUnit, IsMissed, Keeps, MissedAll, MissedOfGroup, OnlyLeave, UsageFalls}
 pub use Rattle.mem_reclaim.specs.Victim.{IsVictim, may_be_killed, own_frames, victim_note}
 pub use Rattle.mem_reclaim.specs.Sets.{HasNoFlagged, IsHighestFlagged, IsKilledRoot, alive_in_subtree, group_kill_note, kill_set}

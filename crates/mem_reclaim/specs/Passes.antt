@@ -1,6 +1,7 @@
--- Reclaim in passes over the groups of a subtree, by ascending number.
-use Rattle.std.specs.Prelude.{◌≡◌, ℕ, ◌-◌, ◌≤◌, ◌==◌, ◌&&◌, ◌⊎◌, Bool, true, false, not, min, max, nat_lt, if◌then◌else◌}
+-- Reclaim in passes over the groups of a subtree, by ascending number or in turn.
+use Rattle.std.specs.Prelude.{◌≡◌, ℕ, ◌-◌, ◌<◌, ◌≤◌, ◌==◌, ◌&&◌, ◌⊎◌, Bool, true, false, Option, Some, None, not, min, max, nat_lt, if◌then◌else◌}
 use Rattle.std.specs.Prelude.{List, [], ◌∷◌, ◌++◌, filter}
+use Rattle.std.specs.Int.{bit_at}
 use Rattle.std.specs.List.{range_with_len}
 use Rattle.group_tree.specs.{most_groups, in_subtree}
 use Rattle.group_tree.specs.declared.event.EventKey.TheVariants as event
@@ -13,7 +14,7 @@ use Rattle.group_protection.specs.Protections.{effective, low_key, min_key}
 use Rattle.lru_lists.specs.declared.record.LruList.TheVariants.{Inactive, Active}
 use Rattle.step_rules.specs.declared.step.NoteKey.TheVariants as key
 use Rattle.step_rules.specs.After.{Run}
-use Rattle.mem_machine.specs.Machines.{KnownMachine, with_detail, with_run}
+use Rattle.mem_machine.specs.Machines.{KnownMachine, with_detail, with_run, with_turn}
 use Rattle.mem_machine.specs.Noted.{KnownRun}
 use Rattle.mem_machine.specs.Ageing.{AgesGroup}
 use Rattle.mem_machine.specs.Steps.{note_steps}
@@ -86,16 +87,20 @@ notes_spared pass usage want wanted = is_first pass && nat_lt wanted want && nat
 abbrev pub with_detail_if : Bool → KnownMachine → Note → KnownMachine
 with_detail_if is_noted machine note = if is_noted then with_detail machine note else machine
 
+-- a turn of the group begins, and then `Does` holds
+abbrev pub BeginsItsTurn : (group : ℕ) → Reclaiming → Reclaiming
+BeginsItsTurn group Does done = Does (progress done.freed (with_turn done.before group) done.steps done.after)
+
 -- `does want`, unless no page is wanted
 abbrev pub IfWanted : (ℕ → Reclaiming) → ℕ → Reclaiming
 IfWanted does want done = ((want ≡ 0) × FreesNothing done) ⊎ ((1 ≤ want) × does want done)
 
 -- The turn of a group of this usage, of which memory.min and memory.low protect this much. If that cuts the turn of the
--- first pass short, a note says so before. The group has no turn if nothing is wanted of it.
+-- first pass short, a note says so before. The group has no turn if nothing is wanted of it; else its turn is the last.
 abbrev pub TakesTurnOf : Pass → (of_min of_low usage group want : ℕ) → Reclaiming
 TakesTurnOf pass of_min of_low usage group want done =
     let wanted = turn_want want usage (spared_by pass of_min of_low) in
-    IfWanted (ReclaimsGroup pass of_min of_low usage group) wanted (progress done.freed
+    IfWanted (λ some. BeginsItsTurn group (ReclaimsGroup pass of_min of_low usage group some)) wanted (progress done.freed
     (with_detail_if (notes_spared pass usage want wanted) done.before (Spared group usage of_min of_low))
     done.steps done.after)
 
@@ -111,10 +116,30 @@ TakesTurn pass target group want done =
 unfoldable pub subtree_of : List Group → ℕ → List ℕ
 subtree_of groups group = filter (in_subtree groups group) (range_with_len 0 most_groups)
 
--- one pass over the groups of the subtree
+-- the members of a set of numbers that is one word, by ascending number
+abbrev pub members_of : (word : ℕ) → List ℕ
+members_of word = filter (λ number. bit_at word number == 1) (range_with_len 0 most_groups)
+
+-- the members of the set are groups of the subtree
+abbrev pub AreInSubtree : List Group → (group word : ℕ) → Type 0
+AreInSubtree groups group word =
+    (number : ℕ) → number < most_groups → bit_at word number ≡ 1 → in_subtree groups group number ≡ true
+
+-- the numbers in the order in which they come if turns go round: those above the last one, and then the others
+abbrev pub rotated : (last : ℕ) → List ℕ → List ℕ
+rotated last numbers = filter (nat_lt last) numbers ++ filter (λ number. not (nat_lt last number)) numbers
+
+-- the groups in the order of their turns, if this group had the last turn; None if turns don't go round
+abbrev pub turn_order : Option ℕ → List ℕ → List ℕ
+turn_order None groups = groups
+turn_order (Some last) groups = rotated last groups
+
+-- One pass over the groups of the subtree, by ascending number. If turns go round, it begins after the group that had
+-- the last turn when it begins.
 abbrev pub ReclaimsPass : (target : ℕ) → Pass → ℕ → Reclaiming
 ReclaimsPass target pass want done =
-    WhileWanted (TakesTurn pass target) (subtree_of done.before.ledger.groups target) want done
+    WhileWanted (TakesTurn pass target) (turn_order done.before.last_turn (subtree_of done.before.ledger.groups target))
+    want done
 
 -- the passes of a reclaim: the third only if some group of the tree has memory.low or memory.min
 abbrev pub passes_of : List ReclaimSettings → List Pass

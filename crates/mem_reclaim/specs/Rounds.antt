@@ -1,5 +1,5 @@
 -- Rounds of reclaim while pages are missing.
-use Rattle.std.specs.Prelude.{◌≡◌, ℕ, zero, suc, ◌+◌, ◌-◌, ◌≤◌, ◌⊎◌}
+use Rattle.std.specs.Prelude.{◌≡◌, ℕ, zero, suc, ◌+◌, ◌-◌, ◌≤◌, ◌==◌, ◌⊎◌, max, if◌then◌else◌}
 use Rattle.group_charge.specs.Charges.{Ledger, current_of}
 use Rattle.group_charge.specs.declared.note.Note.{Note}
 use Rattle.group_charge.specs.declared.note.Note.TheVariants.{Asked, Round}
@@ -15,6 +15,15 @@ max_rounds = 16
 -- how many pages must be freed in the group's subtree, so that with `need` more pages its usage is at most the limit
 abbrev pub pages_missing : ℕ → ℕ → ℕ → Ledger → ℕ
 pages_missing group need limit ledger = current_of ledger group + need - limit
+
+-- how many pages a round wants if this many are missing, and if it has to want at least `batch`: none if none is
+-- missing
+abbrev pub at_least : (batch missing : ℕ) → ℕ
+at_least batch missing = if missing == 0 then 0 else max batch missing
+
+-- the same, if the pages are missing at a limit
+abbrev pub pages_wanted : (batch group need limit : ℕ) → Ledger → ℕ
+pages_wanted batch group need limit ledger = at_least batch (pages_missing group need limit ledger)
 
 -- the note of a round of this number for the group, which led from one machine to the other and freed this many pages
 abbrev pub round_note : ℕ → ℕ → ℕ → KnownMachine → KnownMachine → Note
@@ -35,16 +44,15 @@ pub record ReclaimsRound (group number want : ℕ) (done : Progress) : Type 0 wh
 abbrev pub UnlessNone : Reclaiming → ℕ → Reclaiming
 UnlessNone Does some done = ((some ≡ 0) × FreesNothing done) ⊎ ((1 ≤ some) × Does done)
 
--- At most `rounds` of the `max_rounds` rounds of reclaim from the group's subtree. `missing` says how many pages are
--- missing, and each round wants the pages that are missing when it begins. The rounds end as soon as no page is
--- missing, or after a round that freed none.
-abbrev pub ReclaimsRounds : ℕ → (Ledger → ℕ) → ℕ → Reclaiming
-ReclaimsRounds group missing zero done = FreesNothing done
-ReclaimsRounds group missing (suc rounds) done =
-    ((missing done.before.ledger ≡ 0) × FreesNothing done)
-    ⊎ ((1 ≤ missing done.before.ledger)
-    × BothFree (ReclaimsRound group (max_rounds - rounds) (missing done.before.ledger))
-    (UnlessNone (ReclaimsRounds group missing rounds)) done)
+-- At most `rounds` of the `max_rounds` rounds of reclaim from the group's subtree. `wanted` says how many pages a round
+-- wants, by the ledger when it begins. The rounds end as soon as no page is wanted, or after a round that freed none.
+abbrev pub ReclaimsRounds : ℕ → (wanted : Ledger → ℕ) → ℕ → Reclaiming
+ReclaimsRounds group wanted zero done = FreesNothing done
+ReclaimsRounds group wanted (suc rounds) done =
+    ((wanted done.before.ledger ≡ 0) × FreesNothing done)
+    ⊎ ((1 ≤ wanted done.before.ledger)
+    × BothFree (ReclaimsRound group (max_rounds - rounds) (wanted done.before.ledger))
+    (UnlessNone (ReclaimsRounds group wanted rounds)) done)
 
 -- This many pages of the group's subtree are reclaimed, in at most 16 rounds. Each round wants what is still missing:
 -- the pages to free so that the usage with the pages asked for is at most the usage before.

@@ -1,6 +1,7 @@
 -- What each reclaim keeps, and what it tried.
 use Rattle.std.specs.Prelude.{◌≡◌, ◌≢◌, ℕ, ◌+◌, ◌<◌, ◌≤◌, ◌⊎◌, true, false, Some, None, List}
-use Rattle.group_tree.specs.Groups.{in_subtree}
+use Rattle.std.specs.Int.{bit_at}
+use Rattle.group_tree.specs.{most_groups, in_subtree}
 use Rattle.group_charge.specs.Charges.{current_of}
 use Rattle.group_protection.specs.Protections.{IsKeptByMin}
 use Rattle.lru_lists.specs.declared.record.Link.{Link}
@@ -70,3 +71,8 @@ MissedOrKept limited group before after = MissedOfGroup group before after ⊎ I
 abbrev pub MissedAll : ℕ → KnownMachine → KnownMachine → Type 0
 MissedAll group before after =
     (other : ℕ) → in_subtree after.ledger.groups group other ≡ true → MissedOrKept group other before after
+
+-- and of each member of this set of groups, which is one word
+abbrev pub AreMissedOrKept : (limited word : ℕ) → KnownMachine → KnownMachine → Type 0
+AreMissedOrKept limited word before after =
+    (group : ℕ) → group < most_groups → bit_at word group ≡ 1 → MissedOrKept limited group before after

@@ -1,9 +1,10 @@
 //! Laws of kills and of reclaim: what each function ensures holds of every victim and all groups that die with it, of
 //! every unit that was tried, and of every note.
 
-ghost use Rattle.mem_reclaim.specs.Laws.{FlaggedGroupsDieWhole, LoneKillsAreNotedAsMade, MissedUnitsWereTried};
+ghost use Rattle.mem_reclaim.specs.Laws.{BatchesOfOneWantWhatIsMissing, FlaggedGroupsDieWhole, LoneKillsAreNotedAsMade};
+ghost use Rattle.mem_reclaim.specs.Laws.{MissedUnitsWereTried};
 ghost use Rattle.mem_reclaim.specs.Laws.{OnlyTheLivingDie, ProtectedGroupsHaveNoTurn, RoundsAreNotedAsMade};
-ghost use Rattle.mem_reclaim.specs.Laws.{TheVictimIsOne, VictimsDie};
+ghost use Rattle.mem_reclaim.specs.Laws.{TheVictimIsOne, TurnsAscendUnlessFair, TurnsLeaveOutNoGroup, VictimsDie};
 
 /// If a group in the subtree of the limited group has memory.oom.group on, it is killed as a whole, or no group of its
 /// subtree is killed.
@@ -44,4 +45,19 @@ pub fn rounds_are_noted_as_made()
 /// The note of a victim that dies alone reports the units that the steps of its kill returned.
 pub fn lone_kills_are_noted_as_made()
     ensures { LoneKillsAreNotedAsMade }
+{}
+
+/// Each pass goes over all groups of the subtree, whichever group had the last turn.
+pub fn turns_leave_out_no_group()
+    ensures { TurnsLeaveOutNoGroup }
+{}
+
+/// Turns come by ascending number, unless the boot chose that they go round.
+pub fn turns_ascend_unless_fair()
+    ensures { TurnsAscendUnlessFair }
+{}
+
+/// Rounds that have to want at least one page want just the pages that are missing.
+pub fn batches_of_one_want_what_is_missing()
+    ensures { BatchesOfOneWantWhatIsMissing }
 {}

@@ -21,6 +21,6 @@ pub use amounts::reclaim_amount;
 pub use kills::kill;
 pub use passes::Pass;
 pub use reclaiming::{Reclaimed, reclaim};
-pub use rounds::{MAX_ROUNDS, reclaim_round, reclaim_to_limit};
+pub use rounds::{MAX_ROUNDS, reclaim_in_batches, reclaim_round, reclaim_to_limit};
 pub use sets::Killed;
 pub use victims::victim;

@@ -1,4 +1,4 @@
-//! The passes over the groups of a subtree, by ascending number.
+//! The passes over the groups of a subtree, by ascending number or in turn.
 
 ghost use Rattle.std.specs.Prelude.{◌≡◌, ◌<◌, ◌+◌, ◌^◌, ◌&&◌, true, false, nat_lt, IsTrue};
 ghost use Rattle.group_tree.specs.Groups.{has_group, in_subtree};
@@ -7,9 +7,12 @@ ghost use Rattle.group_charge.specs.declared.note.Note.TheVariants.{Spared};
 ghost use Rattle.boot_words.specs.Pasts.{IsHeld};
 ghost use Rattle.mem_machine.specs.Subtrees.{IsSubtree};
 ghost use Rattle.mem_reclaim.specs.Moves.{FreesBySteps};
-ghost use Rattle.mem_reclaim.specs.Passes.{PassesGroup, ReclaimsGroup, ReclaimsPass, TakesTurn, is_first, is_last};
+ghost use Rattle.mem_reclaim.specs.Passes.{AreInSubtree, PassesGroup, ReclaimsGroup, ReclaimsPass, TakesTurn, is_first};
+ghost use Rattle.mem_reclaim.specs.Passes.{is_last, members_of};
 ghost use Rattle.mem_reclaim.specs.Passes.{notes_spared, spared_by, third_pass, turn_want, with_detail_if};
-ghost use Rattle.mem_reclaim.specs.Staying.{Keeps, MissedAll, MissedOfGroup, MissedOrKept, OnlyLeave, UsageFalls};
+ghost use Rattle.mem_reclaim.specs.Staying.{AreMissedOrKept, Keeps, MissedAll, MissedOfGroup, MissedOrKept, OnlyLeave};
+ghost use Rattle.mem_reclaim.specs.Staying.{UsageFalls};
+ghost use Rattle.mem_reclaim.specs.Wanted.{WhileWanted};
 
 use crate::scan::scan;
 use cpu_part::{BootName, Tables};
@@ -204,6 +207,7 @@ fn note_spared<N: BootName>(
 }
 
 // The turn of a group in a pass. What protects the group is found now, since earlier turns changed what its parents use.
+// If pages are wanted of it, its turn is the last.
 fn take_turn<N: BootName>(
     machine: &mut Machine<N>,
     tables: &Tables<N>,
@@ -233,11 +237,49 @@ fn take_turn<N: BootName>(
     if wanted == 0 {
         return 0;
     }
+    machine.begin_turn(group);
     reclaim_group(machine, tables, group, wanted, pass, usage, protection)
 }
 
-/// One pass over `groups`, those of the subtree of `target`, by ascending number, as long as pages are wanted. Returns
-/// how many pages were freed.
+// One pass over these groups of the subtree of `target`, by ascending number, as long as pages are wanted. Returns how
+// many pages were freed.
+fn pass_over<N: BootName>(
+    machine: &mut Machine<N>,
+    tables: &Tables<N>,
+    target: GroupId,
+    groups: u64,
+    want: u64,
+    pass: Pass,
+) -> u64
+    requires there { IsTrue (has_group machine.old.ledger.groups target) }
+    requires inside { AreInSubtree machine.old.ledger.groups target groups }
+    requires held { IsHeld N.table machine.old.run.past }
+    ensures passes { FreesBySteps N.table result machine.old machine.new
+        (WhileWanted (TakesTurn pass target) (members_of groups) want) }
+    ensures keeps { Keeps N.table machine.old machine.new }
+    ensures usage { current_of machine.new.ledger target + result ≡ current_of machine.old.ledger target }
+    ensures few { result < want + 2 ^ 32 }
+    ensures leaves { is_first pass ≡ false → OnlyLeave machine.old machine.new }
+    ensures tried { is_last pass machine.old.ledger.settings ≡ true → result < want
+        → AreMissedOrKept target groups machine.old machine.new }
+{
+    machine.prove_usage(target); // At most this many pages are freed.
+    let mut rest = groups;
+    let mut freed = 0;
+    while let Some(number) = bit_set::take_first(&mut rest) {
+        if want <= freed {
+            return freed;
+        }
+        let Some(turn) = GroupId::of(number) else {
+            unreachable!()
+        };
+        freed += take_turn(machine, tables, target, turn, want - freed, pass);
+    }
+    freed
+}
+
+/// One pass over `groups`, those of the subtree of `target`, as long as pages are wanted: by ascending number or, if
+/// turns go round, from the group on that comes after the last one that had a turn. Returns how many pages were freed.
 pub(crate) fn reclaim_pass<N: BootName>(
     machine: &mut Machine<N>,
     tables: &Tables<N>,
@@ -256,18 +298,15 @@ pub(crate) fn reclaim_pass<N: BootName>(
     ensures tried { is_last pass machine.old.ledger.settings ≡ true → result < want
         → MissedAll target machine.old machine.new }
 {
-    machine.prove_usage(target); // At most this many pages are freed.
-    let mut rest = groups;
-    let mut freed = 0;
-    while let Some(number) = bit_set::take_first(&mut rest) {
-        if want <= freed {
-            return freed;
-        }
-        let Some(turn) = GroupId::of(number) else {
-            unreachable!()
-        };
-        freed += take_turn(machine, tables, target, turn, want - freed, pass);
-    }
     prove_charges(machine.charges());
-    freed
+    machine.prove_usage(target); // At most this many pages are freed.
+    let Some(last) = machine.last_turn() else {
+        return pass_over(machine, tables, target, groups, want, pass);
+    };
+    let (above, others) = bit_set::parted(groups, last.number());
+    let freed = pass_over(machine, tables, target, above, want, pass);
+    if want <= freed {
+        return freed;
+    }
+    freed + pass_over(machine, tables, target, others, want - freed, pass)
 }

@@ -5,7 +5,7 @@ ghost use Rattle.group_tree.specs.Groups.{has_group};
 ghost use Rattle.group_charge.specs.Charges.{current_of};
 ghost use Rattle.boot_words.specs.Pasts.{IsHeld};
 ghost use Rattle.mem_reclaim.specs.Moves.{FreesBySteps};
-ghost use Rattle.mem_reclaim.specs.Rounds.{ReclaimsRound, ReclaimsRounds, max_rounds, pages_missing};
+ghost use Rattle.mem_reclaim.specs.Rounds.{ReclaimsRound, ReclaimsRounds, max_rounds, pages_missing, pages_wanted};
 ghost use Rattle.mem_reclaim.specs.Staying.{Keeps, MissedAll};
 
 use crate::reclaiming::{Reclaimed, reclaim};
@@ -26,6 +26,19 @@ fn missing(charges: &Charges, group: GroupId, need: u32, limit: u32) -> u64
     ensures few { current_of charges.now group < 2 ^ 32 }
 {
     (u64::from(charges.current(group)) + u64::from(need)).saturating_sub(u64::from(limit))
+}
+
+// How many pages a round wants: those that are missing, but at least `batch`.
+fn wanted(charges: &Charges, group: GroupId, need: u32, limit: u32, batch: u32) -> u64
+    requires { IsTrue (has_group charges.now.groups group) }
+    ensures wanted { result ≡ pages_wanted batch group need limit charges.now }
+    ensures few { current_of charges.now group < 2 ^ 32 }
+{
+    let missing = missing(charges, group, need, limit);
+    if missing == 0 {
+        return 0;
+    }
+    missing.max(u64::from(batch))
 }
 
 /// Makes the round of this number, from 1, for a group, in which `want` pages are wanted. It is noted with what it
@@ -61,9 +74,41 @@ pub fn reclaim_round<N: BootName>(
 }
 
 /// Reclaims from the subtree of `group` until its usage with `need` more pages is at most `limit`. It makes at most 16
-/// rounds. Each round wants the pages that are missing when it begins, and is noted; one that freed none is the last.
-/// Returns how many pages were freed. If they weren't enough, each clean unit that the subtree still keeps was tried
-/// and missed, or memory.min protects it.
+/// rounds. Each round wants the pages that are missing when it begins, but at least `batch`, and is noted; one that
+/// freed none is the last. Returns how many pages were freed. If they weren't enough, each clean unit that the subtree
+/// still keeps was tried and missed, or memory.min protects it.
+pub fn reclaim_in_batches<N: BootName>(
+    machine: &mut Machine<N>,
+    tables: &Tables<N>,
+    group: GroupId,
+    need: u32,
+    limit: u32,
+    batch: u32,
+) -> u64
+    requires there { IsTrue (has_group machine.old.ledger.groups group) }
+    requires held { IsHeld N.table machine.old.run.past }
+    ensures rounds { FreesBySteps N.table result machine.old machine.new
+        (ReclaimsRounds group (pages_wanted batch group need limit) max_rounds) }
+    ensures missed { limit < current_of machine.new.ledger group + need → MissedAll group machine.old machine.new }
+    ensures usage { current_of machine.new.ledger group + result ≡ current_of machine.old.ledger group }
+    ensures keeps { Keeps N.table machine.old machine.new }
+{
+    let mut freed = 0;
+    for round in 0..MAX_ROUNDS {
+        let want = wanted(machine.charges(), group, need, limit, batch);
+        if want == 0 {
+            return freed;
+        }
+        let pages = reclaim_round(machine, tables, group, round + 1, want).pages;
+        freed += pages;
+        if pages == 0 {
+            return freed;
+        }
+    }
+    freed
+}
+
+/// Reclaims as `reclaim_in_batches` does, in rounds that want just the pages that are missing.
 pub fn reclaim_to_limit<N: BootName>(
     machine: &mut Machine<N>,
     tables: &Tables<N>,
@@ -79,17 +124,5 @@ pub fn reclaim_to_limit<N: BootName>(
     ensures usage { current_of machine.new.ledger group + result ≡ current_of machine.old.ledger group }
     ensures keeps { Keeps N.table machine.old machine.new }
 {
-    let mut freed = 0;
-    for round in 0..MAX_ROUNDS {
-        let want = missing(machine.charges(), group, need, limit);
-        if want == 0 {
-            return freed;
-        }
-        let pages = reclaim_round(machine, tables, group, round + 1, want).pages;
-        freed += pages;
-        if pages == 0 {
-            return freed;
-        }
-    }
-    freed
+    reclaim_in_batches(machine, tables, group, need, limit, 1)
 }

@@ -10,7 +10,7 @@ use Rattle.mem_machine.specs.{of_subtree, BySteps, transition}
 use Rattle.mem_machine.proofs.Followed.{makes_both, makes_none}
 use Rattle.mem_reclaim.specs.{FreesBySteps, ReclaimsRounds, pages_missing, Keeps, MissedAll}
 use Rattle.mem_reclaim.proofs.LettingGo.{drains_leave}
-use Rattle.mem_alloc.specs.{KillsForRoom, with_limit_noted}
+use Rattle.mem_alloc.specs.{KillsForRoom, KillsIfAllowed, with_limit_noted}
 use Rattle.mem_system.specs.{IsLeafAt, LowersUsage, LowersAbove, LowersToHigh, KeepsToLimit, with_high_told, SetsLimit, with_limit_of}
 use Rattle.mem_system.proofs.Found.{found_there}
 
@@ -51,7 +51,7 @@ lowered_by t g limit pages freed m x n sub none leads missed keeps = record {
 
 -- the usage is above it
 pub lowered_above : (t : KnownTable) (g limit : ℕ) (m y x n : KnownMachine) → limit < current_of m.ledger g → y ≡ with_limit_noted m g 0
-    → BySteps Makes t (LowersUsage g limit) y x → BySteps Makes t (KillsForRoom None g 0) x n
+    → BySteps Makes t (LowersUsage g limit) y x → BySteps Makes t (KillsIfAllowed (KillsForRoom None g 0)) x n
     → BySteps Makes t (LowersAbove g limit) m n
 lowered_above t g limit m y x n over told of_y k =
     let b = subst (λ (z : KnownMachine). BySteps Makes t (LowersUsage g limit) z x) told of_y in record {

@@ -23,9 +23,9 @@ use Rattle.mem_reclaim.specs.Moves.{has_kill}
 use Rattle.mem_reclaim.proofs.LettingGo.{drains_leave, quiet_drains}
 use Rattle.mem_alloc.specs.declared.faults.AllocFault.{AllocFault}
 use Rattle.mem_alloc.specs.declared.faults.AllocFault.TheVariants.{Over, NoFrames, RequesterKilled}
-use Rattle.mem_alloc.specs.{has_room_at, with_limit_noted, NoRashKill}
+use Rattle.mem_alloc.specs.{KillsForRoom, has_room_at, with_limit_noted, NoRashKill}
 use Rattle.mem_alloc.proofs.Calm.{back_calm}
-use Rattle.mem_alloc.proofs.NoRash.{Passes, RashFree, drained_on, keeps_pass, missed_since, passes_both, passes_same, rash_both, rash_quiet, tame_kills}
+use Rattle.mem_alloc.proofs.NoRash.{Passes, RashFree, drained_on, keeps_pass, missed_since, passes_both, passes_same, rash_both, rash_quiet, tame_kills, unless_tame}
 use Rattle.mem_alloc.proofs.NoRashAllocs.{block_no_rash, frame_no_rash, no_kill_both}
 use Rattle.mem_system.specs.declared.command.LockedCommand.{LockedCommand}
 use Rattle.mem_system.specs.declared.command.LockedCommand.TheVariants.{Mkdir, Rmdir, Write, Read, Settle, Owner, Release, Alloc}
@@ -123,8 +123,10 @@ module _ (t : KnownTable) (MayAsk : List Group → ℕ → ℕ → Type 0) (s : 
       missed_since t MayAsk s held g (made ++ first) y x after_drains (low.missed (omega (arith, more))) in
       let drained = drained_on t MayAsk s held g y x low.keeps.groups low.keeps.stocks low.none_held in
       let still = subst (λ (l : List Group). MayAsk l g 0) (sym groups) asked in
-      let killing = tame_kills t MayAsk s held None g 0 (made ++ h.lowering) x h.killing n still (passes_both t s m x made h.lowering since lowering) drained
-      missed h.kills in
+      let done = made ++ h.lowering in
+      let killing = unless_tame t MayAsk s held t.choices.is_no_kill refl (KillsForRoom None g 0) done x h.killing n
+      (λ allowed kills. tame_kills t MayAsk s held None g 0 done x h.killing n allowed still (passes_both t s m x made h.lowering since lowering) drained missed kills)
+      h.kills in
       subst (λ (k : Run). RashFree t MayAsk s made k) (sym h.steps_are) (rash_both t MayAsk s held made h.lowering h.killing
       (rash_quiet t MayAsk s held made h.lowering (lowers_quiet g limit (transition t told h.lowering x) low)) killing.rash)
 

@@ -16,10 +16,11 @@ pub record KnownSystem : Type 0 where
   pub table : KnownTable
   pub sizes : Config
 
--- the table has these sizes
+-- the table has these sizes and choices
 pub record IsSizedAs (sizes : Config) (table : KnownTable) : Type 0 where
   pub frames : table.frames ≡ sizes.frames
   pub cpus : table.cpus ≡ sizes.cpus
+  pub choices : table.choices ≡ sizes.choices
 
 -- The sizes are in their ranges, and the table has them. The seats of the zone and of the CPUs are all the seats of the
 -- table, and none has made a step. No CPU holds the lock.

@@ -67,3 +67,11 @@ CommandsKillOverLimits =
     (served : Serves cmd reply call) (before rest : Run)
     (made : Step × Answer) (group : ℕ) → served.inner ≡ before ++ made ∷ rest → made.0.action ≡ Kill group
     → IsKilledFor cmd call.table served.settled.machine before group
+
+-- in a boot that chose that no group is killed, no command kills
+abbrev pub BootsMayKillNobody : Type 0
+BootsMayKillNobody =
+    (cmd : LockedCommand) (reply : ReplyWithText) (call : Transition LockedState)
+    (served : Serves cmd reply call) (before rest : Run)
+    (made : Step × Answer) (group : ℕ) → call.table.choices.is_no_kill ≡ true → served.inner ≡ before ++ made ∷ rest
+    → ¬ (made.0.action ≡ Kill group)

@@ -6,7 +6,7 @@ use Rattle.step_rules.specs.After.{Run}
 use Rattle.mem_machine.specs.{KnownMachine, with_note, Makes, Drain, drain_stocks_steps, DrainsAllBelow, AreDrained, Transition, transition}
 use Rattle.mem_machine.specs.{MachineStays}
 use Rattle.mem_reclaim.specs.{FreesBySteps, ReclaimsRounds, max_rounds, pages_missing, Keeps, MissedAll}
-use Rattle.mem_alloc.specs.{with_limit_noted, KillsForRoom}
+use Rattle.mem_alloc.specs.{with_limit_noted, KillsForRoom, KillsIfAllowed}
 
 -- The stocks of the group's subtree are drained. Then its units are reclaimed, in at most 16 rounds, while its usage is
 -- above the limit. If the usage is above the limit even after that, each clean unit that the subtree still keeps was
@@ -25,13 +25,13 @@ pub record LowersUsage (group limit : ℕ) (call : Transition KnownMachine) : Ty
   pub steps_are : call.steps ≡ drain_stocks_steps drains ++ reclaims.steps
 
 -- It is noted that the limit has no room, and the group's usage is lowered. If it is still above the limit, victims of
--- the group are killed; nobody asks for pages here.
+-- the group are killed, if the boot allows that; nobody asks for pages here.
 pub record LowersByKills (group limit : ℕ) (call : Transition KnownMachine) : Type 0 where
   pub lowered : KnownMachine
   pub lowering : Run
   pub killing : Run
   pub lowers : LowersUsage group limit (transition call.table (with_limit_noted call.before group 0) lowering lowered)
-  pub kills : KillsForRoom None group 0 (transition call.table lowered killing call.after)
+  pub kills : KillsIfAllowed (KillsForRoom None group 0) (transition call.table lowered killing call.after)
   pub steps_are : call.steps ≡ lowering ++ killing
 
 -- if the group's usage is above the limit, it is lowered, if needed by kills; else nothing is done

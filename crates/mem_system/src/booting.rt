@@ -21,7 +21,7 @@ pub fn boot(alloc: Global, sizes: Config) -> Result<Boot, BootFault>
     if !sizes.is_valid() {
         return Err(BootFault::BadConfig);
     }
-    let (words, zone, cpus) = BootWords::new(alloc, sizes.frames, sizes.cpus)?;
+    let (words, zone, cpus) = BootWords::new(alloc, sizes.frames, sizes.cpus, sizes.choices)?;
     Ok(Boot {
         sizes,
         words,

@@ -3,7 +3,7 @@
 ghost use Rattle.mem_system.specs.CommandLaws.{EndsLeaveEmptyWords, OnlyCommandsKill, OnlyReclaimFallsShort};
 ghost use Rattle.mem_system.specs.CommandLaws.{ReleasesCutLists};
 ghost use Rattle.mem_system.specs.Counted.{VisitsFindCounts};
-ghost use Rattle.mem_system.specs.KillLaws.{CommandsKillOverLimits, CommandsKillWholeSets};
+ghost use Rattle.mem_system.specs.KillLaws.{BootsMayKillNobody, CommandsKillOverLimits, CommandsKillWholeSets};
 ghost use Rattle.mem_system.specs.Laws.{CommandsKillLast, CommandsTryAllWithoutMin};
 ghost use Rattle.mem_system.specs.Lost.{ConsistentMachinesLoseNoUnit};
 
@@ -27,6 +27,11 @@ pub fn commands_kill_whole_sets()
 /// at most 8, have no room under a limit on its group's path. No other command kills.
 pub fn commands_kill_over_limits()
     ensures { CommandsKillOverLimits }
+{}
+
+/// If the boot chose that no group is killed, no command kills.
+pub fn boots_may_kill_nobody()
+    ensures { BootsMayKillNobody }
 {}
 
 /// Of all steps of a visit, only those of the command itself kill a group.

@@ -10,7 +10,7 @@ use control_files::limit::Limit;
 use cpu_part::{BootName, Tables};
 use group_charge::note::Note;
 use group_tree::group::GroupId;
-use mem_alloc::{kill_for, note_limit};
+use mem_alloc::{kill_for_limit, note_limit};
 use mem_machine::Machine;
 use mem_reclaim::reclaim_to_limit;
 
@@ -60,7 +60,7 @@ pub(crate) fn lower_to_high<N: BootName>(
 }
 
 // If the group's usage is above its limit, notes that and lowers the usage as `lower_usage` does. If that isn't enough,
-// kills until the usage is within the limit or no victim is left.
+// kills until the usage is within the limit or no victim is left, unless the boot chose that no group is killed.
 pub(crate) fn keep_to_limit<N: BootName>(
     machine: &mut Machine<N>,
     tables: &Tables<N>,
@@ -75,6 +75,6 @@ pub(crate) fn keep_to_limit<N: BootName>(
     if limit < machine.current(group) {
         note_limit(machine, group, 0);
         lower_usage(machine, tables, group, limit);
-        kill_for(machine, tables, None, group, 0);
+        kill_for_limit(machine, tables, group);
     }
 }

@@ -12,6 +12,7 @@ use reply_texts::{write_fast, write_get, write_put, write_reply};
 use std::alloc::Global;
 use std::marker::Brand;
 use std::sync::Wait;
+use zone_blocks::choices::Choices;
 use zone_blocks::config::Config;
 
 const SIZES: Config = Config {
@@ -20,6 +21,7 @@ const SIZES: Config = Config {
     batch: 4,
     high: 8,
     stock: 4,
+    choices: Choices::NONE,
 };
 
 fn main(rt: HostRuntime) -> Result<()> {

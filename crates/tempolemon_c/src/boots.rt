@@ -3,8 +3,8 @@
 ghost use Rattle.std.specs.Prelude.{◌≡◌, ◌≢◌, ◌↔◌, None};
 ghost use Rattle.zone_blocks.specs.Config.{IsValidConfig};
 ghost use Rattle.tempolemon_c.specs.Behind.{behind};
-ghost use Rattle.host_memory.specs.{ExceedsBuffer, FillsBuffer, config_of, bad_config, done, is_live, no_memory};
-ghost use Rattle.host_memory.specs.{not_live, small_buffer};
+ghost use Rattle.host_memory.specs.{ExceedsBuffer, FillsBuffer, config_of, bad_config, bad_version, done, header_version};
+ghost use Rattle.host_memory.specs.{is_live, no_memory, not_live, small_buffer};
 ghost use Rattle.tempolemon_c.specs.Handles.{AnswersAndStoresUnread, AnswersLines, BootsNew, EndsBoot, HasUnread};
 ghost use Rattle.tempolemon_c.specs.Handles.{LinesRunOut, RefusesLines, TakesUnread};
 ghost use Rattle.tempolemon_c.specs.Statuses.{IsAnswerStatus, IsBootStatus, IsEndStatus, IsLinesStatus, bad_line};
@@ -15,20 +15,34 @@ use crate::status::BAD_LINE;
 use host_memory::buffers::copy_answers;
 use host_memory::report::Report;
 use host_memory::sizes::Sizes;
-use host_memory::status::{BAD_CONFIG, DONE, IS_LIVE, NO_MEMORY, NOT_LIVE, SMALL_BUFFER};
+use host_memory::status::{
+    BAD_CONFIG, BAD_VERSION, DONE, IS_LIVE, NO_MEMORY, NOT_LIVE, SMALL_BUFFER,
+};
+use host_memory::version::HEADER_VERSION;
 use mem_system::{BootFault, boot};
 use std::alloc::Global;
 
-/// Boots a zone of these sizes behind a handle that has none. Unless the status is 0, nothing of the boot stays.
+/// Boots a zone of these sizes behind a handle that has none, for a host that was compiled with the headers of this
+/// version. Unless the status is 0, nothing of the boot stays.
 #[unsafe(no_mangle)]
-pub extern "C" fn tempolemon_boot(alloc: Global, sizes: &Sizes, handle: &mut Handle) -> u8
+pub extern "C" fn tempolemon_boot_as(
+    alloc: Global,
+    version: u32,
+    sizes: &Sizes,
+    handle: &mut Handle,
+) -> u8
     ensures statuses { IsBootStatus result }
-    ensures refused_live { (result ≡ is_live) ↔ (behind handle.old ≢ None) }
+    ensures bad_version { (result ≡ bad_version) ↔ (version ≢ header_version) }
+    ensures refused_live { (result ≡ is_live) ↔ ((version ≡ header_version) × (behind handle.old ≢ None)) }
     ensures bad_sizes { (result ≡ bad_config)
-        ↔ ((behind handle.old ≡ None) × (¬ IsValidConfig (config_of sizes.now))) }
+        ↔ ((version ≡ header_version) × (behind handle.old ≡ None) × (¬ IsValidConfig (config_of sizes.now))) }
     ensures booted { result ≡ done → BootsNew (config_of sizes.now) (behind handle.new) }
     ensures stays { result ≢ done → behind handle.new ≡ behind handle.old }
 {
+    // (nothing before this: the sizes and the handle of another version may have another form)
+    if version != HEADER_VERSION {
+        return BAD_VERSION;
+    }
     if handle.is_live() {
         return IS_LIVE;
     }

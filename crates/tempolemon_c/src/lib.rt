@@ -12,7 +12,8 @@
 ghost use Rattle.std.specs.Prelude.{◌≡◌, ◌≢◌, ◌↔◌};
 ghost use Rattle.zone_blocks.specs.Config.{IsValidConfig};
 ghost use Rattle.script_lines.specs.Script.{IsFirstBadLine};
-ghost use Rattle.host_memory.specs.{FillsBuffer, ExceedsBuffer, config_of, bad_config, done, small_buffer};
+ghost use Rattle.host_memory.specs.{FillsBuffer, ExceedsBuffer, config_of, bad_config, bad_version, done, header_version};
+ghost use Rattle.host_memory.specs.{small_buffer};
 ghost use Rattle.tempolemon_c.specs.Replays.{IsReplayAnswer};
 ghost use Rattle.tempolemon_c.specs.Statuses.{IsReplayStatus, bad_line};
 
@@ -40,17 +41,19 @@ use crate::replaying::answer_script;
 use crate::status::BAD_LINE;
 use host_memory::buffers::copy_answers;
 use host_memory::sizes::Sizes;
-use host_memory::status::{BAD_CONFIG, DONE, NO_MEMORY, SMALL_BUFFER};
+use host_memory::status::{BAD_CONFIG, BAD_VERSION, DONE, NO_MEMORY, SMALL_BUFFER};
+use host_memory::version::HEADER_VERSION;
 use std::alloc::Global;
 
 /// Boots a zone of these sizes, replays the script on it, and ends the boot. The answers are those of the program's
 /// `replay`, byte for byte.
 ///
-/// The sizes are judged first, then the script. A buffer that is too small gets nothing: `written` is the length that
+/// The version of the host's header is judged first, then the sizes, then the script. A buffer that is too small gets nothing: `written` is the length that
 /// it needs, and the call can be made again. Nothing of the boot stays, whatever the status.
 #[unsafe(no_mangle)]
-pub extern "C" fn tempolemon_replay(
+pub extern "C" fn tempolemon_replay_as(
     alloc: Global,
+    version: u32,
     sizes: &Sizes,
     is_explained: bool,
     is_audited: bool,
@@ -60,16 +63,24 @@ pub extern "C" fn tempolemon_replay(
     first_bad: &mut usize,
 ) -> u8
     ensures statuses { IsReplayStatus result }
-    ensures bad_sizes { (result ≡ bad_config) ↔ (¬ IsValidConfig (config_of sizes.now)) }
+    ensures bad_version { (result ≡ bad_version) ↔ (version ≢ header_version) }
+    ensures bad_sizes { (result ≡ bad_config)
+        ↔ ((version ≡ header_version) × (¬ IsValidConfig (config_of sizes.now))) }
     ensures first_bad_line { result ≡ bad_line → IsFirstBadLine (config_of sizes.now) script.now first_bad.new }
     ensures answered { result ≡ done → FillsBuffer
         (IsReplayAnswer (config_of sizes.now) is_explained is_audited script.now) answers.old answers.new written.new }
     ensures too_small { result ≡ small_buffer → ExceedsBuffer
         (IsReplayAnswer (config_of sizes.now) is_explained is_audited script.now) answers.old written.new }
     ensures buffer_stays { result ≢ done → answers.new ≡ answers.old }
-    ensures no_length { result ≢ done → result ≢ small_buffer → written.new ≡ 0 }
-    ensures no_bad_line { result ≢ bad_line → first_bad.new ≡ 0 }
+    ensures no_length { version ≡ header_version → result ≢ done → result ≢ small_buffer → written.new ≡ 0 }
+    ensures no_bad_line { version ≡ header_version → result ≢ bad_line → first_bad.new ≡ 0 }
+    ensures length_stays { result ≡ bad_version → written.new ≡ written.old }
+    ensures line_stays { result ≡ bad_version → first_bad.new ≡ first_bad.old }
 {
+    // (nothing before this: what another version's pointers lead to may have another form)
+    if version != HEADER_VERSION {
+        return BAD_VERSION;
+    }
     *written = 0;
     *first_bad = 0;
     match answer_script(alloc, sizes.config(), script, is_explained, is_audited) {
@@ -88,4 +99,12 @@ pub extern "C" fn tempolemon_replay(
         }
         Err(ReplayFault::NoMemory) => NO_MEMORY,
     }
+}
+
+/// The version of the headers that the library was made for.
+#[unsafe(no_mangle)]
+pub extern "C" fn tempolemon_version() -> u32
+    ensures { result ≡ header_version }
+{
+    HEADER_VERSION
 }

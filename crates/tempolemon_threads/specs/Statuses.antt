@@ -1,6 +1,6 @@
 -- The statuses that only calls of this library have, as the header numbers them, and those of each kind of call.
 use Rattle.std.specs.Prelude.{ℕ, [], ◌∷◌, Contains}
-use Rattle.host_memory.specs.Statuses.{bad_config, bad_cpu, done, is_live, no_memory, not_live}
+use Rattle.host_memory.specs.Statuses.{bad_config, bad_cpu, bad_version, done, is_live, no_memory, not_live}
 
 -- another thread has the lock
 abbrev pub busy : ℕ
@@ -20,7 +20,7 @@ lost = 112
 
 -- the statuses with which a boot is answered
 abbrev pub IsZoneBootStatus : ℕ → Type 0
-IsZoneBootStatus status = Contains (done ∷ bad_config ∷ no_memory ∷ is_live ∷ []) status
+IsZoneBootStatus status = Contains (done ∷ bad_config ∷ no_memory ∷ is_live ∷ bad_version ∷ []) status
 
 -- the statuses with which an end is answered
 abbrev pub IsZoneEndStatus : ℕ → Type 0

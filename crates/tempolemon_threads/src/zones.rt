@@ -2,7 +2,7 @@
 
 ghost use Rattle.std.specs.Prelude.{◌≡◌, ◌≢◌, ◌↔◌, IsSome, None};
 ghost use Rattle.zone_blocks.specs.Config.{IsValidConfig};
-ghost use Rattle.host_memory.specs.{config_of, bad_config, bad_cpu, done, is_live, not_live};
+ghost use Rattle.host_memory.specs.{config_of, bad_config, bad_cpu, bad_version, done, header_version, is_live, not_live};
 ghost use Rattle.tempolemon_threads.specs.Behind.{part_behind, zone_behind};
 ghost use Rattle.tempolemon_threads.specs.Statuses.{IsZoneBootStatus, IsZoneEndStatus, IsReturnStatus, IsTakeStatus};
 ghost use Rattle.tempolemon_threads.specs.Statuses.{busy, cpu_out, cpus_out};
@@ -14,22 +14,33 @@ use crate::requests::{Forked, RequestAnswer};
 use crate::status::{BUSY, CPU_OUT, CPUS_OUT, LOST};
 use host_memory::report::Report;
 use host_memory::sizes::Sizes;
-use host_memory::status::{BAD_CONFIG, BAD_CPU, DONE, IS_LIVE, NO_MEMORY, NOT_LIVE};
+use host_memory::status::{BAD_CONFIG, BAD_CPU, BAD_VERSION, DONE, IS_LIVE, NO_MEMORY, NOT_LIVE};
+use host_memory::version::HEADER_VERSION;
 use mem_system::{BootFault, boot};
 use std::alloc::Global;
 use zone_threads::home::NotEntered;
 
-/// Boots a zone of these sizes behind a handle that has none, with all its CPUs parked. Unless the status is 0, nothing of
-/// the zone stays.
+/// Boots a zone of these sizes behind a handle that has none, with all its CPUs parked, for a host that was compiled with
+/// the headers of this version. Unless the status is 0, nothing of the zone stays.
 #[unsafe(no_mangle)]
-pub extern "C" fn tempolemon_zone_boot(alloc: Global, sizes: &Sizes, zone: &mut Zone) -> u8
+pub extern "C" fn tempolemon_zone_boot_as(
+    alloc: Global,
+    version: u32,
+    sizes: &Sizes,
+    zone: &mut Zone,
+) -> u8
     ensures statuses { IsZoneBootStatus result }
-    ensures refused_live { (result ≡ is_live) ↔ (zone_behind zone.old ≢ None) }
+    ensures bad_version { (result ≡ bad_version) ↔ (version ≢ header_version) }
+    ensures refused_live { (result ≡ is_live) ↔ ((version ≡ header_version) × (zone_behind zone.old ≢ None)) }
     ensures bad_sizes { (result ≡ bad_config)
-        ↔ ((zone_behind zone.old ≡ None) × (¬ IsValidConfig (config_of sizes.now))) }
+        ↔ ((version ≡ header_version) × (zone_behind zone.old ≡ None) × (¬ IsValidConfig (config_of sizes.now))) }
     ensures booted { result ≡ done → BootsZone (config_of sizes.now) (zone_behind zone.new) }
     ensures stays { result ≢ done → zone_behind zone.new ≡ zone_behind zone.old }
 {
+    // (nothing before this: the sizes and the handle of another version may have another form)
+    if version != HEADER_VERSION {
+        return BAD_VERSION;
+    }
     if zone.is_live() {
         return IS_LIVE;
     }

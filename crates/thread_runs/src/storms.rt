@@ -12,6 +12,7 @@ use script_replay::before_go;
 use std::process::Abort;
 use std::slice::Iter;
 use std::str;
+use zone_blocks::choices::Choices;
 use zone_blocks::config::Config;
 
 // How many lines each CPU has in a storm. A run by hand may use 20,000.
@@ -25,6 +26,7 @@ const FOUR_PROCESSORS: Config = Config {
     batch: 4,
     high: 8,
     stock: 4,
+    choices: Choices::NONE,
 };
 
 // The numbers of the frames as text. (An array, or formatting, would make the check dearer.)

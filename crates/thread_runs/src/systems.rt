@@ -13,6 +13,7 @@ use std::marker::Brand;
 use std::process::Abort;
 use std::sync::Wait;
 use std::thread::Threads;
+use zone_blocks::choices::Choices;
 use zone_blocks::config::Config;
 
 /// 16 frames and two CPUs.
@@ -22,6 +23,7 @@ pub const TWO_CPUS: Config = Config {
     batch: 4,
     high: 8,
     stock: 4,
+    choices: Choices::NONE,
 };
 
 /// The answers of the threads, and those to the lines after them. Then the pins that each of the first four CPUs has,

@@ -1,5 +1,6 @@
 -- The sizes that a zone may be booted with.
-use Rattle.std.specs.Prelude.{◌≤◌, ℕ}
+use Rattle.std.specs.Prelude.{◌≤◌, ℕ, false}
+use Rattle.zone_blocks.specs.declared.choices.Choices.{Choices}
 use Rattle.zone_blocks.specs.declared.config.Config.{Config}
 
 -- how many frames a zone may have
@@ -22,7 +23,21 @@ most_high = 256
 abbrev pub most_stock : ℕ
 most_stock = 64
 
--- every size is in its range, and `high` is at least `batch`
+-- how many pages a round of reclaim may have to want
+abbrev pub most_reclaim_batch : ℕ
+most_reclaim_batch = 64
+
+-- The choices of a boot that makes none: passes of reclaim begin with the least group, groups may be killed, and a
+-- round wants the pages that are missing.
+abbrev pub no_choices : Choices
+no_choices = record { is_fair = false; is_no_kill = false; reclaim_batch = 1 }
+
+-- a round of reclaim has to want at least one page, and at most the greatest number
+pub record AreValidChoices (choices : Choices) : Type 0 where
+  pub reclaim_batch_low : 1 ≤ choices.reclaim_batch
+  pub reclaim_batch_high : choices.reclaim_batch ≤ most_reclaim_batch
+
+-- every size and every choice is in its range, and `high` is at least `batch`
 pub record IsValidConfig (c : Config) : Type 0 where
   pub frames_low : 1 ≤ c.frames
   pub frames_high : c.frames ≤ most_frames
@@ -34,3 +49,4 @@ pub record IsValidConfig (c : Config) : Type 0 where
   pub high_high : c.high ≤ most_high
   pub stock_low : 1 ≤ c.stock
   pub stock_high : c.stock ≤ most_stock
+  pub choices : AreValidChoices c.choices

@@ -16,5 +16,5 @@ pub use Rattle.zone_blocks.specs.OrderLists.{AreApart, AreBlockBits, AreMaximalU
 pub use Rattle.zone_blocks.specs.OrderLists.{IsLastBefore, IsNextAfter, IsNode, IsNodeBefore, IsNodeBelow, IsStart, MeetsRange, blocks_of}
 pub use Rattle.zone_blocks.specs.OrderLists.{blocks_of_order, blocks_of_zone, has_block_bit, head_of, with_bit}
 pub use Rattle.zone_blocks.specs.PairBits.{AreBitLists, ArePairBits, ChangesOne, bit_of, pair_of, toggled}
-pub use Rattle.zone_blocks.specs.Config.{IsValidConfig, most_cpus, most_frames}
+pub use Rattle.zone_blocks.specs.Config.{IsValidConfig, most_cpus, most_frames, no_choices}
 pub use Rattle.zone_blocks.specs.Zone.{AreSoundAreas, BuddyZone, GivesFrames, HasNoBuddy, IsInUse, TakesBuddy, TakesFrames, block_at, free_set_of}

@@ -2,6 +2,8 @@
 
 ghost use Rattle.std.specs.Prelude.{◌↔◌, IsTrue};
 
+use crate::choices::Choices;
+
 /// The sizes that a zone is booted with. A value may be out of range until `is_valid` was asked.
 #[derive(Clone, Copy, Debug, PartialEq, Eq)]
 pub struct Config {
@@ -15,6 +17,8 @@ pub struct Config {
     pub high: u32,
     /// Pages that a CPU prepays at once: 1 to 64.
     pub stock: u32,
+    /// How the zone reclaims, and whether it kills.
+    pub choices: Choices,
 }
 
 impl Config {
@@ -44,6 +48,6 @@ impl Config {
         let batch = 1 <= self.batch && self.batch <= Config::MAX_BATCH;
         let high = self.batch <= self.high && self.high <= Config::MAX_HIGH;
         let stock = 1 <= self.stock && self.stock <= Config::MAX_STOCK;
-        frames && cpus && batch && high && stock
+        frames && cpus && batch && high && stock && self.choices.is_valid()
     }
 }

@@ -5,6 +5,7 @@
 pub mod areas;
 pub mod block;
 pub mod buddy;
+pub mod choices;
 pub mod config;
 mod frame;
 pub mod laws;

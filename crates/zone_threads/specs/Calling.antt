@@ -1,8 +1,9 @@
 -- What each call does to the CPU of a thread, by its answer, and by which steps of the run.
-use Rattle.std.specs.Prelude.{◌≡◌, ◌≢◌, ◌+◌, ◌<◌, ◌≤◌, ◌⊎◌, ℕ, true, false, List, length, None, Ok, Option, Some}
+use Rattle.std.specs.Prelude.{◌≡◌, ◌≢◌, ◌+◌, ◌<◌, ◌≤◌, ◌⊎◌, ◌++◌, ◌∷◌, [], ℕ, true, false, List, length, None, Ok, Option}
+use Rattle.std.specs.Prelude.{Some}
 use Rattle.std.specs.Borrow.{Bor}
 use Rattle.frame_word.specs.declared.answers.Get.{Get}
-use Rattle.frame_word.specs.declared.answers.Get.TheVariants.{Held}
+use Rattle.frame_word.specs.declared.answers.Get.TheVariants.{Full, Held, Raced, Zero}
 use Rattle.frame_word.specs.declared.answers.Put.{Put}
 use Rattle.zone_blocks.specs.declared.config.Config.{Config}
 use Rattle.group_tree.specs.{most_groups, has_group, limit_of, path_of}
@@ -11,9 +12,12 @@ use Rattle.group_tree.specs.declared.fault.Fault.TheVariants.{BadOrder, NotPinne
 use Rattle.group_charge.specs.Charges.{Ledger, current_of, peak_of, settings_of}
 use Rattle.control_files.specs.declared.file.File.{File}
 use Rattle.control_files.specs.Files.{limit_text, name_of_file}
-use Rattle.boot_words.specs.{GrewByAll, own_past, KnownTable}
-use Rattle.step_rules.specs.State.{times, most_pins}
-use Rattle.cpu_part.specs.{DropAnswers, FastAnswers, PinAnswers, UnpinAnswers, steps_of_drop, steps_of_fast, steps_of_get, steps_of_put}
+use Rattle.boot_words.specs.{GrewByAll, OthersFollow, RacesAt, own_past, zone_of_boot, KnownTable}
+use Rattle.boot_words.specs.Pasts.{get_said}
+use Rattle.step_rules.specs.State.{times, most_pins, most_references}
+use Rattle.step_rules.specs.{Run, IsLegalRun, cpu_makes, references_on}
+use Rattle.step_rules.specs.declared.step.Action.TheVariants as does
+use Rattle.cpu_part.specs.{DropAnswers, FastAnswers, IfRaced, PinAnswers, UnpinAnswers, steps_of_drop, steps_of_fast, steps_of_get, steps_of_put}
 use Rattle.cpu_part.specs.declared.answers.Dropped.{Dropped}
 use Rattle.cpu_part.specs.declared.answers.Dropped.TheVariants.{Listed, NeedVisit}
 use Rattle.cpu_part.specs.declared.answers.Fast.{Fast}
@@ -89,17 +93,37 @@ pub record DropsFast (frame : ℕ) (dropped : Dropped) (from to : CpuInRun) : Ty
   pub answers : DropAnswers frame dropped from.last from.part to.last to.part
   pub run : GrewByAll (own_past from.past) (steps_of_drop from.part.number frame dropped from.last) (own_past to.past)
 
--- the CPU asked for a pin of the frame with this answer, and its past grew by this step
-pub record Pins (frame : ℕ) (got : Get) (from to : CpuInRun) : Type 0 where
+-- The CPU asked for a pin of the frame with this answer, and its past grew by this step. In a legal run Zero says that the
+-- frame had no reference, and Full that it had 255 (`CountsReferences`). A race is no step: by others' steps the second
+-- look at the frame's word found another one than the first.
+pub record Pins (frames : KnownTable) (frame : ℕ) (got : Get) (from to : CpuInRun) : Type 0 where
   pub answers : PinAnswers frame got from.part to.part
   pub last : to.last ≡ from.last
   pub run : GrewByAll (own_past from.past) (steps_of_get from.part.number frame (Ok got)) (own_past to.past)
+  pub raced : IfRaced got (RacesAt (zone_of_boot frames) (own_past from.past) frame)
 
--- the CPU asked for a pin of the frame, and has none more
-pub record MissesPin (frame : ℕ) (from to : CpuInRun) : Type 0 where
+-- the CPU asked for a pin of the frame, and has none more: the answer was Zero or Full, or the get raced
+pub record MissesPin (frames : KnownTable) (frame : ℕ) (from to : CpuInRun) : Type 0 where
   pub got : Get
   pub not_held : got ≢ Held
-  pub asks : Pins frame got from to
+  pub asks : Pins frames frame got from to
+
+-- The CPU's get was a step, and found so many references on the frame: its past grew by steps of others to this legal run,
+-- and then by the get.
+pub record FindsReferences (frames : KnownTable) (frame count : ℕ) (got : Get) (from to : CpuInRun) : Type 0 where
+  pub found : Run
+  pub meanwhile : OthersFollow (own_past from.past).number (own_past from.past).seen found
+  pub then : (own_past to.past).seen ≡ found ++ cpu_makes from.part.number (does.Get frame) (get_said got) ∷ []
+  pub legal : IsLegalRun (zone_of_boot frames) found
+  pub count_is : references_on (zone_of_boot frames) found frame ≡ count
+
+-- why a get with this answer added no pin: the frame had no reference, or 255 of them; or others' steps changed its word
+-- between the two looks of the get
+abbrev pub IsMissedFor : KnownTable → (frame : ℕ) → Get → (from to : CpuInRun) → Type 0
+IsMissedFor frames frame Held from to = ⊥
+IsMissedFor frames frame Zero from to = FindsReferences frames frame 0 Zero from to
+IsMissedFor frames frame Full from to = FindsReferences frames frame most_references Full from to
+IsMissedFor frames frame (Raced found) from to = RacesAt (zone_of_boot frames) (own_past from.past) frame found
 
 -- A block that begins at this frame was allocated for the group of this number, by its path. Right after it, under the
 -- same lock, `Asks` leads from the CPU as the allocation left it to the CPU as it is now.
@@ -114,15 +138,16 @@ pub record AllocatesThen (frames : KnownTable) (group order frame : ℕ) (Asks :
 -- this cause
 abbrev pub ServesPinned : KnownTable → (group order : ℕ) → Outcome → (before after : LockedState) → Type 0
 ServesPinned frames group order (Frame frame) before after =
-    AllocatesThen frames group order frame (Pins frame Held) before after
+    AllocatesThen frames group order frame (Pins frames frame Held) before after
 ServesPinned frames group order refusal before after = ServesBlock frames group order refusal before after
 
--- a block was allocated, no pin of it was had, and it was released again
+-- a block was allocated, no pin of it was had, for this cause, and it was released again
 pub record GivesUpBlock (frames : KnownTable) (group order : ℕ) (before after : LockedState) : Type 0 where
   pub frame : ℕ
   pub missed : LockedState
   pub outcome : Outcome
-  pub allocates : AllocatesThen frames group order frame (MissesPin frame) before missed
+  pub allocates : AllocatesThen frames group order frame (MissesPin frames frame) before missed
+  pub cause : IsMissedFor frames frame allocates.asks.got allocates.between.cpu missed.cpu
   pub releases : ServesOutcome frames (cmd.Release frame) outcome missed after
 
 -- the CPU put a pin of the frame with this answer, and its past grew by this step
@@ -209,7 +234,7 @@ ReadsPages frames group which said from to =
 -- What a get does to the CPU, by its answer. Whether the zone has the frame is looked at first.
 abbrev pub CallsGet : KnownTable → (frame : ℕ) → CallAnswer → (from to : CpuInRun) → Type 0
 CallsGet frames frame answer.NoFrame from to = (frames.frames ≤ frame) × (to ≡ from)
-CallsGet frames frame (answer.Got got) from to = Pins frame got from to
+CallsGet frames frame (answer.Got got) from to = Pins frames frame got from to
 CallsGet frames frame (answer.Refused fault) from to = (frame < frames.frames) × (fault ≡ PinsFull) × RefusesPin from to
 CallsGet frames frame returned from to = ⊥
 

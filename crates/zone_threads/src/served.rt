@@ -258,7 +258,8 @@ impl<N: BootName> Behind<N> {
 fn pin<N: BootName>(tables: &Tables<N>, cpu: &mut Cpu<N>, number: u32) -> bool
     requires room { HasPinRoom cpu.old }
     requires frame { number < N.table.frames }
-    ensures { MatchBool result (Pins number Held cpu.old cpu.new) (MissesPin number cpu.old cpu.new) }
+    ensures { MatchBool result (Pins N.table number Held cpu.old cpu.new)
+        (MissesPin N.table number cpu.old cpu.new) }
 {
     let Some(frame) = tables.words.frame(number) else {
         unreachable!()

@@ -5,7 +5,7 @@ use Rattle.group_charge.specs.Charges.{Ledger, with_max_noted}
 use Rattle.mem_machine.specs.{KnownMachine, drain_stocks_steps, note_max_steps}
 use Rattle.mem_alloc.specs.Kills.{has_room_at}
 use Rattle.mem_alloc.proofs.Lowering.{Lowers, lowers_both, note_lowers, all_lower, lowered_there}
-use Rattle.mem_alloc.proofs.Killing.{few_lower}
+use Rattle.mem_alloc.proofs.Killing.{allowed_lower}
 use Rattle.mem_reclaim.proofs.Grown.{held_after}
 use Rattle.mem_alloc.proofs.Making.{clears_by, limit_held, limit_visits, relieves_by}
 use Rattle.mem_alloc.proofs.room.make_room.Goals as goal
@@ -27,8 +27,8 @@ reclaim_for-requires-clause-held g c =
     (held_after t c.note_limit.new.machine (note_max_steps c.args.limited) c.note_event.new.self c.note_event.ensures.steps
     (limit_held t c.args.limited c.args.pages c.args.machine.now c.note_limit.new.machine c.note_limit.ensures c.requires.held))
 
-pub kill_for_few_pages-requires-clause-held : goal.kill_for_few_pages-requires-clause-held
-kill_for_few_pages-requires-clause-held g c =
+pub kill_for_charge-requires-clause-held : goal.kill_for_charge-requires-clause-held
+kill_for_charge-requires-clause-held g c =
     let t = g.N.BootName.table in
     let drains = c.drain_stocks.ensures.drains in
     let reclaims = c.reclaim_for.ensures.reclaims in
@@ -47,8 +47,8 @@ reclaim_for-requires-clause-there g c =
     let lowers = lowers_both g.N.BootName.table _ _ _ noted (all_lower g.N.BootName.table c.args.limited g.N.BootName.table.cpus _ _ sub.drains sub.all) in
     lowered_there g.N.BootName.table _ _ c.args.limited lowers c.requires.there
 
-pub kill_for_few_pages-requires-clause-there : goal.kill_for_few_pages-requires-clause-there
-kill_for_few_pages-requires-clause-there g c =
+pub kill_for_charge-requires-clause-there : goal.kill_for_charge-requires-clause-there
+kill_for_charge-requires-clause-there g c =
     let sub = c.drain_stocks.ensures.drains in
     let noted : Lowers g.N.BootName.table c.args.machine.now c.note_event.new.self =
     subst (λ (y : KnownMachine). Lowers g.N.BootName.table c.args.machine.now y)
@@ -69,35 +69,35 @@ has_room_at-requires g c =
     let there : has_group c.reclaim_for.new.machine.ledger.groups c.args.limited ≡ true =
     ap (λ (x : List Group). has_group x c.args.limited) c.reclaim_for.ensures.reclaims.does.keeps.groups
     ∙ lowered_there g.N.BootName.table _ _ c.args.limited lowers c.requires.there in
-    let killed = c.kill_for_few_pages.ensures.kills in
+    let killed = c.kill_for_charge.ensures.kills in
     subst (λ (l : Ledger). has_group l.groups c.args.limited ≡ true) (sym c.charges.ensures)
     (lowered_there g.N.BootName.table _ _ c.args.limited
-    (few_lower g.N.BootName.table c.args.requester c.args.limited c.args.pages c.reclaim_for.new.machine c.kill_for_few_pages.new.machine killed.steps
+    (allowed_lower g.N.BootName.table c.args.requester c.args.limited c.args.pages c.reclaim_for.new.machine c.kill_for_charge.new.machine killed.steps
     killed.does) there)
 
 pub returns-then-is_killed-clause-relieves : goal.returns-then-is_killed-clause-relieves
 returns-then-is_killed-clause-relieves g c =
     relieves_by g.N.BootName.table c.args.requester c.args.limited c.args.pages c.args.machine.now c.drain_stocks.new.self c.reclaim_for.new.machine
-    c.kill_for_few_pages.new.machine
+    c.kill_for_charge.new.machine
     (clears_by g.N.BootName.table c.args.limited c.args.pages c.drain_stocks.result c.args.machine.now c.note_limit.new.machine c.note_event.new.self
     c.drain_stocks.new.self c.note_limit.ensures c.note_event.ensures.machine c.note_event.ensures.steps c.drain_stocks.ensures.drains c.drain_stocks.ensures.drained)
-    c.reclaim_for.ensures.reclaims c.kill_for_few_pages.ensures.kills
+    c.reclaim_for.ensures.reclaims c.kill_for_charge.ensures.kills
 
 pub returns-then-has_room_at-clause-relieves : goal.returns-then-has_room_at-clause-relieves
 returns-then-has_room_at-clause-relieves g c =
     relieves_by g.N.BootName.table c.args.requester c.args.limited c.args.pages c.args.machine.now c.drain_stocks.new.self c.reclaim_for.new.machine
-    c.kill_for_few_pages.new.machine
+    c.kill_for_charge.new.machine
     (clears_by g.N.BootName.table c.args.limited c.args.pages c.drain_stocks.result c.args.machine.now c.note_limit.new.machine c.note_event.new.self
     c.drain_stocks.new.self c.note_limit.ensures c.note_event.ensures.machine c.note_event.ensures.steps c.drain_stocks.ensures.drains c.drain_stocks.ensures.drained)
-    c.reclaim_for.ensures.reclaims c.kill_for_few_pages.ensures.kills
+    c.reclaim_for.ensures.reclaims c.kill_for_charge.ensures.kills
 
 pub returns-else-has_room_at-clause-relieves : goal.returns-else-has_room_at-clause-relieves
 returns-else-has_room_at-clause-relieves g c =
     relieves_by g.N.BootName.table c.args.requester c.args.limited c.args.pages c.args.machine.now c.drain_stocks.new.self c.reclaim_for.new.machine
-    c.kill_for_few_pages.new.machine
+    c.kill_for_charge.new.machine
     (clears_by g.N.BootName.table c.args.limited c.args.pages c.drain_stocks.result c.args.machine.now c.note_limit.new.machine c.note_event.new.self
     c.drain_stocks.new.self c.note_limit.ensures c.note_event.ensures.machine c.note_event.ensures.steps c.drain_stocks.ensures.drains c.drain_stocks.ensures.drained)
-    c.reclaim_for.ensures.reclaims c.kill_for_few_pages.ensures.kills
+    c.reclaim_for.ensures.reclaims c.kill_for_charge.ensures.kills
 
 pub returns-then-is_killed-clause-room : goal.returns-then-is_killed-clause-room
 returns-then-is_killed-clause-room g c = sym c.is_killed.ensures ∙ c.if-is_killed.true
@@ -119,15 +119,15 @@ returns-else-has_room_at-clause-room g c = (
 
 pub returns-then-is_killed-clause-visit : goal.returns-then-is_killed-clause-visit
 returns-then-is_killed-clause-visit g c p v =
-    c.kill_for_few_pages.ensures.visit p (c.reclaim_for.ensures.visit p (c.drain_stocks.ensures.visit p (c.note_event.ensures.visit p
+    c.kill_for_charge.ensures.visit p (c.reclaim_for.ensures.visit p (c.drain_stocks.ensures.visit p (c.note_event.ensures.visit p
     (limit_visits g.N.BootName.table c.args.limited c.args.pages c.args.machine.now c.note_limit.new.machine c.note_limit.ensures p v))))
 
 pub returns-then-has_room_at-clause-visit : goal.returns-then-has_room_at-clause-visit
 returns-then-has_room_at-clause-visit g c p v =
-    c.kill_for_few_pages.ensures.visit p (c.reclaim_for.ensures.visit p (c.drain_stocks.ensures.visit p (c.note_event.ensures.visit p
+    c.kill_for_charge.ensures.visit p (c.reclaim_for.ensures.visit p (c.drain_stocks.ensures.visit p (c.note_event.ensures.visit p
     (limit_visits g.N.BootName.table c.args.limited c.args.pages c.args.machine.now c.note_limit.new.machine c.note_limit.ensures p v))))
 
 pub returns-else-has_room_at-clause-visit : goal.returns-else-has_room_at-clause-visit
 returns-else-has_room_at-clause-visit g c p v =
-    c.kill_for_few_pages.ensures.visit p (c.reclaim_for.ensures.visit p (c.drain_stocks.ensures.visit p (c.note_event.ensures.visit p
+    c.kill_for_charge.ensures.visit p (c.reclaim_for.ensures.visit p (c.drain_stocks.ensures.visit p (c.note_event.ensures.visit p
     (limit_visits g.N.BootName.table c.args.limited c.args.pages c.args.machine.now c.note_limit.new.machine c.note_limit.ensures p v))))

@@ -14,13 +14,13 @@ pub lower_usage-requires-clause-held : goal.lower_usage-requires-clause-held
 lower_usage-requires-clause-held g c =
     limit_held g.N.BootName.table c.args.group 0 c.args.machine.now c.note_limit.new.machine c.note_limit.ensures c.requires.held
 
-pub kill_for-requires-clause-there : goal.kill_for-requires-clause-there
-kill_for-requires-clause-there g c =
+pub kill_for_limit-requires-clause-there : goal.kill_for_limit-requires-clause-there
+kill_for_limit-requires-clause-there g c =
     ap (λ (x : List Group). has_group x c.args.group) (lowered_groups g.N.BootName.table c.args.group c.args.limit _ _ c.lower_usage.ensures.lowers)
     ∙ ap (λ (x : KnownMachine). has_group x.ledger.groups c.args.group) c.note_limit.ensures ∙ c.requires.there
 
-pub kill_for-requires-clause-held : goal.kill_for-requires-clause-held
-kill_for-requires-clause-held g c =
+pub kill_for_limit-requires-clause-held : goal.kill_for_limit-requires-clause-held
+kill_for_limit-requires-clause-held g c =
     let t = g.N.BootName.table in
     let lowers = c.lower_usage.ensures.lowers in
     held_after t c.note_limit.new.machine lowers.steps c.lower_usage.new.machine lowers.makes
@@ -31,8 +31,8 @@ returns-then-limit-current-clause-lowers g c =
     let over = c.if-limit-current.true in
     let same = c.current.ensures in
     lowered_above g.N.BootName.table c.args.group c.args.limit c.args.machine.now c.note_limit.new.machine
-    c.lower_usage.new.machine c.kill_for.new.machine (omega (arith, over, same)) c.note_limit.ensures c.lower_usage.ensures.lowers
-    c.kill_for.ensures.kills
+    c.lower_usage.new.machine c.kill_for_limit.new.machine (omega (arith, over, same)) c.note_limit.ensures c.lower_usage.ensures.lowers
+    c.kill_for_limit.ensures.kills
 
 pub returns-else-limit-current-clause-lowers : goal.returns-else-limit-current-clause-lowers
 returns-else-limit-current-clause-lowers g c =
@@ -42,5 +42,5 @@ returns-else-limit-current-clause-lowers g c =
 
 pub returns-then-limit-current-clause-visit : goal.returns-then-limit-current-clause-visit
 returns-then-limit-current-clause-visit g c = λ y v.
-    c.kill_for.ensures.visit y (c.lower_usage.ensures.visit y
+    c.kill_for_limit.ensures.visit y (c.lower_usage.ensures.visit y
     (limit_visits g.N.BootName.table c.args.group 0 c.args.machine.now c.note_limit.new.machine c.note_limit.ensures y v))

@@ -5,7 +5,8 @@ use Rattle.group_charge.specs.Charges.{Ledger}
 use Rattle.mem_system.specs.{locked_state}
 use Rattle.mem_system.proofs.Dirtying.{given_inside}
 use Rattle.zone_threads.specs.Homes.{KnownBehind}
-use Rattle.zone_threads.proofs.Pinning.{refusal_served, room_left}
+use Rattle.zone_threads.specs.Calling.{MissesPin}
+use Rattle.zone_threads.proofs.Pinning.{missed_for, refusal_served, room_left}
 use Rattle.zone_threads.proofs.behind.Behind.alloc_pinned.Goals as goal
 
 pub returns-in_default-outcome : goal.returns-in_default-outcome
@@ -61,6 +62,8 @@ serve_outcome-released-requires g c =
 pub returns : goal.returns
 returns g c =
     let done = c.serve_outcome-outcome in
+    let missed = locked_state done.new.locked c.pin.new.cpu in
+    let asks : MissesPin g.N.BootName.table c.in-Frame.frame done.new.cpu c.pin.new.cpu = search rules in
     let groups : c.self.inside.locked.machine.ledger.groups ≡ c.tree.result.now = ap (λ (l : Ledger). l.groups) (sym c.charges-2.ensures) ∙ sym c.tree.ensures.tree in
     let named : path_of c.self.inside.locked.machine.ledger.groups c.args.group ≡ Some c.as_bytes-path.result.now
     = (λ i. path_of (groups i) (sym c.in-Some.ensures.found.0 i)) ∙ c.path_of.ensures.value ∙ ap Some (sym c.as_bytes-path.ensures.text) in record {
@@ -70,14 +73,15 @@ returns g c =
       sound_before = record { quiet = c.prove_quiet.ensures.quiet; consistent = c.prove_quiet.ensures.consistent; charges = c.prove_quiet.ensures.charges };
       served = record {
         frame = c.in-Frame.frame;
-        missed = locked_state done.new.locked c.pin.new.cpu;
+        missed = missed;
         outcome = c.serve_outcome-released.result;
         allocates = record {
           between = locked_state done.new.locked done.new.cpu;
           allocates = record { path = c.as_bytes-path.result; path_is = named; serves = c.in-Frame.ensures.served };
           lock_kept = refl;
-          asks = search rules;
+          asks = asks;
         };
+        cause = missed_for g.N.BootName.table c.in-Frame.frame _ c.serve_outcome-released.result done.new.cpu missed _ asks c.serve_outcome-released.ensures.served;
         releases = c.serve_outcome-released.ensures.served;
       };
       sound_after = record { quiet = c.prove_quiet-3.ensures.quiet; consistent = c.prove_quiet-3.ensures.consistent; charges = c.prove_quiet-3.ensures.charges };

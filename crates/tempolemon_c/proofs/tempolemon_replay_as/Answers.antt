@@ -1,6 +1,6 @@
--- Serves the contract of `tempolemon_replay`: each status is one of the five, at its place in the list.
+-- Serves the contract of `tempolemon_replay_as`: each status is one of the six, at its place in the list.
 use Rattle.std.proofs.Common.{refl, arith}
-use Rattle.tempolemon_c.proofs.tempolemon_replay.Goals as goal
+use Rattle.tempolemon_c.proofs.tempolemon_replay_as.Goals as goal
 
 pub returns-in-Ok-clause-statuses : goal.returns-in-Ok-clause-statuses
 returns-in-Ok-clause-statuses c = (4, omega arith, refl)

@@ -1,5 +1,0 @@
-use Rattle.mem_reclaim.proofs.Rounding.{RoundsSoFar}
-use Rattle.mem_reclaim.proofs.rounds.reclaim_to_limit.Given as goal
-
-abbrev pub invariant-loop-round : goal.invariant-loop-round
-invariant-loop-round g l = RoundsSoFar g.N.BootName.table l.group l.need l.limit l.fn.machine l.round l.freed l.machine
