@@ -104,7 +104,10 @@ impl Model for BootWords {
     ghost use Rattle.boot_words.specs.Seats.{HasBootLayout};
 
     ghost view = { λ w. record {
-        table = w.table.shared.table_id; frames = w.frames; cpus = w.cpus; choices = w.choices;
+      table = w.table.shared.table_id;
+      frames = w.frames;
+      cpus = w.cpus;
+      choices = w.choices;
     } };
 
     ghost invariant = { λ w. HasBootLayout w.table.shared.table_id w.table.shared.key.frames w.table.shared.key.cpus

@@ -130,11 +130,7 @@ pub(crate) fn kill_for_charge<N: BootName>(
 
 /// Kills for a limit that was written below the usage, as `kill_for` does if no group asks for pages, unless the boot
 /// chose that no group is killed.
-pub fn kill_for_limit<N: BootName>(
-    machine: &mut Machine<N>,
-    tables: &Tables<N>,
-    limited: GroupId,
-)
+pub fn kill_for_limit<N: BootName>(machine: &mut Machine<N>, tables: &Tables<N>, limited: GroupId)
     requires there { IsTrue (has_group machine.old.ledger.groups limited) }
     requires held { IsHeld N.table machine.old.run.past }
     ensures kills { BySteps Makes N.table (KillsIfAllowed (KillsForRoom None limited 0)) machine.old machine.new }
