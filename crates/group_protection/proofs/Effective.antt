@@ -1,6 +1,6 @@
 -- Effective values along a path. Serves `effective`, `protection_of`, the laws, and crates above.
-use Rattle.std.proofs.Common.{◌≡◌, ◌≢◌, ℕ, zero, suc, ◌+◌, ◌-◌, ◌*◌, ◌/◌, ◌<◌, ◌≤◌, ◌==◌, ◌||◌, ◌⊎◌, inl, inr, Bool, true, false, not, Option, Some, None, List, refl, sym, ap, ◌∙◌, subst, arith, cond}
-use Rattle.std.specs.Prelude.{length, min, nat_eq, nat_lt, nat_le}
+use Rattle.std.proofs.Common.{◌≡◌, ◌≢◌, ℕ, zero, suc, ◌+◌, ◌-◌, ◌*◌, ◌/◌, ◌^◌, ◌<◌, ◌≤◌, ◌==◌, ◌||◌, inl, inr, Bool, true, false, not, Option, Some, None, List, refl, sym, ap, ◌∙◌, arith, cond}
+use Rattle.std.specs.Prelude.{length, min, nat_eq, nat_lt, nat_le, sum_by, unwrap_or}
 use Rattle.std.specs.List.{slice_index_or}
 use Rattle.std.specs.Option.{option_eq, option_map_or}
 use Rattle.std.proofs.lemmas.Bool.{cases_eq, cases_lt, cond-true, cond-false, eq-eqb, eqb-true, ne_eqb, false_from_ne_true, false≢true, true≢false}
@@ -12,6 +12,7 @@ use Rattle.group_tree.specs.Ancestors.{depth_at}
 use Rattle.group_tree.specs.Path.{depth_of}
 use Rattle.group_tree.specs.Groups.{AreGroups, in_subtree, parent_of}
 use Rattle.group_tree.proofs.CallerLemmas.{in_subtree-above_parent, in_subtree-antisym, in_subtree-parent_of, parent_of-depth}
+use Rattle.group_charge.specs.declared.settings.ReclaimSettings.{ReclaimSettings}
 use Rattle.group_charge.specs.Charges.{Ledger, are_protecting, current_of, is_protecting, no_settings, settings_of}
 use Rattle.group_protection.specs.declared.protecting.Key.TheVariants.{Min, Low}
 use Rattle.group_protection.specs.declared.protecting.Key.{Key}
@@ -179,6 +180,36 @@ module _ (key : Key) (ledger : Ledger) (target : ℕ) (unset : (group : ℕ) →
   within_none zero group = refl
   within_none (suc n) group = from_none (effective_within n key ledger target) (within_none n) group (parent_of ledger.groups group)
 
+  pub effective-unset : (group : ℕ) → effective key ledger target group ≡ 0
+  unfolding effective
+  effective-unset group = within_none (depth_at ledger.groups group) group
+
 pub nothing_set : (key : Key) (ledger : Ledger) (target group : ℕ) → are_protecting ledger.settings ≡ false → effective key ledger target group ≡ 0
-unfolding effective
-nothing_set key ledger target group off = within_none key ledger target (setting_none key ledger off) (depth_at ledger.groups group) group
+nothing_set key ledger target group off = effective-unset key ledger target (setting_none key ledger off) group
+
+-- ---- ledgers with the same groups, settings and usages
+
+pub same_setting : (key : Key) (a b : Ledger) → a.settings ≡ b.settings → (group : ℕ) → setting key a group ≡ setting key b group
+same_setting Min a b same group = ap (λ (l : List ReclaimSettings). unwrap_or (slice_index_or l group no_settings).min (2 ^ 32 - 1)) same
+same_setting Low a b same group = ap (λ (l : List ReclaimSettings). unwrap_or (slice_index_or l group no_settings).low (2 ^ 32 - 1)) same
+
+module _ (key : Key) (a b : Ledger) (target : ℕ) (groups : a.groups ≡ b.groups) (settings : a.settings ≡ b.settings)
+    (usages : (group : ℕ) → current_of a group ≡ current_of b group) where
+  same_from : (p q : ℕ → ℕ) → ((group : ℕ) → p group ≡ q group) → (group : ℕ) (o : Option ℕ)
+      → protection_from key a target p group o ≡ protection_from key b target q group o
+  same_from p q same group None = refl
+  same_from p q same group (Some parent) = λ i.
+      cond (group == target) 0 (cond (parent == target) (same_setting key a b settings group i) (share_of (same parent i)
+      (sum_by (λ (g : Group). cond (option_eq nat_eq (parent_of (groups i) g.number) (Some parent)) (min (usages g.number i) (same_setting key a b settings g.number i)) 0) (groups i))
+      (usages parent i) (min (usages group i) (same_setting key a b settings group i)) (usages group i)))
+
+  same_within : (levels group : ℕ) → effective_within levels key a target group ≡ effective_within levels key b target group
+  same_within zero group = refl
+  same_within (suc levels) group =
+      ap (protection_from key a target (effective_within levels key a target) group) (ap (λ (l : List Group). parent_of l group) groups)
+      ∙ same_from (effective_within levels key a target) (effective_within levels key b target) (same_within levels) group (parent_of b.groups group)
+
+  pub effective-same : (group : ℕ) → effective key a target group ≡ effective key b target group
+  unfolding effective
+  effective-same group =
+      ap (λ (l : List Group). effective_within (depth_at l group) key a target group) groups ∙ same_within (depth_at b.groups group) group

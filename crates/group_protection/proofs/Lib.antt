@@ -1,3 +1,4 @@
+mod Breaking
 mod Claiming
 pub mod Effective
 pub mod Topping

@@ -1,7 +1,5 @@
--- What memory.min keeps, by the setting of the group right below a target. Serves crates above.
-use Rattle.std.proofs.Common.{◌≡◌, ◌≢◌, ℕ, zero, suc, ◌-◌, ◌^◌, ◌<◌, ◌≤◌, ◌⊎◌, inl, inr, true, Option, Some, None, List, refl, sym, ap, ◌∙◌, arith}
-use Rattle.std.specs.Prelude.{unwrap_or}
-use Rattle.std.specs.List.{slice_index_or}
+-- What memory.min keeps. Serves the laws and crates above.
+use Rattle.std.proofs.Common.{◌≡◌, ◌≢◌, ℕ, zero, suc, ◌<◌, ◌≤◌, inl, inr, true, Option, Some, None, List, refl, sym, ap, ◌∙◌, subst, arith}
 use Rattle.std.proofs.lemmas.Bool.{cases_eq}
 use Rattle.group_tree.specs.declared.group.Group.{Group}
 use Rattle.group_tree.specs.Ancestors.{depth_at}
@@ -9,11 +7,10 @@ use Rattle.group_tree.specs.Groups.{AreGroups, in_subtree, parent_of}
 use Rattle.group_tree.proofs.AncestorLemmas.{parent_of-none_root}
 use Rattle.group_tree.proofs.CallerLemmas.{in_subtree-above, in_subtree-above_parent, in_subtree-antisym, in_subtree-below, in_subtree-parent_of, in_subtree-refl, in_subtree-root, in_subtree-trans}
 use Rattle.group_tree.proofs.Walks.{parent_depth}
-use Rattle.group_charge.specs.declared.settings.ReclaimSettings.{ReclaimSettings}
-use Rattle.group_charge.specs.Charges.{Ledger, current_of, no_settings}
+use Rattle.group_charge.specs.Charges.{Ledger, current_of}
 use Rattle.group_protection.specs.declared.protecting.Key.TheVariants.{Min}
-use Rattle.group_protection.specs.Protections.{IsKeptByMin, effective, setting}
-use Rattle.group_protection.proofs.Effective.{effective-bounded, effective-target}
+use Rattle.group_protection.specs.Protections.{IsKeptByMin, UsageAboveEachMinIsNotKept, effective, setting}
+use Rattle.group_protection.proofs.Effective.{effective-bounded, effective-target, effective-unset, same_setting}
 
 -- the group right below the target on the path of this group
 pub record TopOf (groups : List Group) (target group : ℕ) : Type 0 where
@@ -43,36 +40,58 @@ module _ (groups : List Group) (facts : AreGroups groups) (target : ℕ) where
   pub top_of : (group : ℕ) → in_subtree groups target group ≡ true → group ≢ target → TopOf groups target group
   top_of group below ne = top_at (depth_at groups group) group (omega arith) below ne
 
-same_setting : (before after : Ledger) (g : ℕ) → after.settings ≡ before.settings → setting Min after g ≡ setting Min before g
-same_setting before after g same = ap (λ (s : List ReclaimSettings). unwrap_or (slice_index_or s g no_settings).min (2 ^ 32 - 1)) same
+-- memory.min keeps a group that has no more pages than it protected when the group's turn began
+pub kept_by_min : (before after : Ledger) (target group : ℕ) → after.groups ≡ before.groups → after.settings ≡ before.settings
+    → ((other : ℕ) → current_of after other ≤ current_of before other)
+    → effective Min before target group ≢ 0 → current_of after group ≤ effective Min before target group → IsKeptByMin before after target group
+kept_by_min before after target group groups settings falls some few = record {
+  turn = before;
+  groups = groups;
+  settings = settings;
+  since = λ other. omega arith;
+  until = falls;
+  some = omega (arith, some);
+  few = few;
+}
 
--- a group that has no more pages than memory.min protected
-pub kept_by_min : (before after : Ledger) (target group : ℕ) → AreGroups before.groups → after.groups ≡ before.groups → after.settings ≡ before.settings
-    → in_subtree before.groups target group ≡ true → effective Min before target group ≢ 0 → current_of after group ≤ effective Min before target group
-    → IsKeptByMin after target group
-kept_by_min before after target group facts groups settings below some low =
-    let t = top_of before.groups facts target group below (λ at. some (ap (effective Min before target) at ∙ effective-target Min before target)) in
-    let bound = effective-bounded Min before target facts t.top t.child group t.above in
-    let e = same_setting before after t.top settings in
-    record {
-      top = t.top;
-      child = ap (λ (g : List Group). parent_of g t.top) groups ∙ t.child;
-      above = ap (λ (g : List Group). in_subtree g t.top group) groups ∙ t.above;
-      some = omega (arith, bound, e, some);
-      few = omega (arith, low, bound, e);
-    }
+-- it stays so while usages fall, and counted from before
+pub kept_still : (first before after last : Ledger) (target group : ℕ) → last.groups ≡ after.groups → last.settings ≡ after.settings
+    → ((other : ℕ) → current_of before other ≤ current_of first other) → ((other : ℕ) → current_of last other ≤ current_of after other)
+    → IsKeptByMin before after target group → IsKeptByMin first last target group
+kept_still first before after last target group groups settings fell falls kept = record {
+  turn = kept.turn;
+  groups = groups ∙ kept.groups;
+  settings = settings ∙ kept.settings;
+  since = λ other. let x = kept.since other in let y = fell other in omega (arith, x, y);
+  until = λ other. let x = kept.until other in let y = falls other in omega (arith, x, y);
+  some = kept.some;
+  few = let x = kept.few in let y = falls group in omega (arith, x, y);
+}
 
--- it stays so while usages fall
-pub kept_still : (before after : Ledger) (target group : ℕ) → after.groups ≡ before.groups → after.settings ≡ before.settings
-    → current_of after group ≤ current_of before group → IsKeptByMin before target group → IsKeptByMin after target group
-kept_still before after target group groups settings falls kept =
-    let e = same_setting before after kept.top settings in
+pub usage_above_each_min : UsageAboveEachMinIsNotKept
+usage_above_each_min before after limited group facts below above kept = elim (cases_eq group limited) [
+  | inl at ↦
+      let z = ap (effective Min kept.turn limited) at ∙ effective-target Min kept.turn limited in
+      let some = kept.some in
+      omega (arith, z, some)
+  | inr away ↦
+      let t = top_of after.groups facts limited group below away in
+      let facts' : AreGroups kept.turn.groups = subst (λ (l : List Group). AreGroups l) kept.groups facts in
+      let bound = effective-bounded Min kept.turn limited facts' t.top (ap (λ (l : List Group). parent_of l t.top) (sym kept.groups) ∙ t.child) group
+      (ap (λ (l : List Group). in_subtree l t.top group) (sym kept.groups) ∙ t.above) in
+      let same = same_setting Min after kept.turn kept.settings t.top in
+      let more = above t.top (record {
+        below = in_subtree-parent_of after.groups t.top limited facts t.child;
+        other = λ loop. let d = parent_depth after.groups t.top limited facts t.child in let e = ap (depth_at after.groups) loop in omega (arith, d, e);
+        on_path = t.above;
+      }) in
+      let few = kept.few in
+      omega (arith, bound, same, more, few)
+]
+
+-- memory.min protects nothing if no group has any
+pub kept_some_min : (before after : Ledger) (limited group : ℕ) → ((other : ℕ) → setting Min after other ≡ 0) → ¬ IsKeptByMin before after limited group
+kept_some_min before after limited group none kept =
+    let unset = effective-unset Min kept.turn limited (λ other. sym (same_setting Min after kept.turn kept.settings other) ∙ none other) group in
     let some = kept.some in
-    let few = kept.few in
-    record {
-      top = kept.top;
-      child = ap (λ (g : List Group). parent_of g kept.top) groups ∙ kept.child;
-      above = ap (λ (g : List Group). in_subtree g kept.top group) groups ∙ kept.above;
-      some = omega (arith, some, e);
-      few = omega (arith, few, falls, e);
-    }
+    omega (arith, unset, some)

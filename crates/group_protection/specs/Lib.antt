@@ -1,1 +1,2 @@
+pub mod Breaches
 pub mod Protections

@@ -1,7 +1,7 @@
 -- How much of a group's usage is protected from a reclaim (cgroup-v2.rst, memory.min and memory.low;
 -- `effective_protection` with memory_recursiveprot, mm/memcontrol.c, Linux 6.1).
-use Rattle.std.specs.Prelude.{◌≡◌, ℕ, zero, suc, ◌+◌, ◌-◌, ◌*◌, ◌/◌, ◌^◌, ◌<◌, ◌≤◌, ◌==◌, ◌||◌, min, nat_eq, nat_lt, nat_le}
-use Rattle.std.specs.Prelude.{Bool, true, false, Option, Some, None, unwrap_or, List, if◌then◌else◌, sum_by}
+use Rattle.std.specs.Prelude.{◌≡◌, ◌≢◌, ℕ, zero, suc, ◌+◌, ◌-◌, ◌*◌, ◌/◌, ◌^◌, ◌<◌, ◌≤◌, ◌==◌, ◌||◌, min, nat_eq, nat_lt, nat_le}
+use Rattle.std.specs.Prelude.{true, false, Option, Some, None, unwrap_or, if◌then◌else◌, sum_by}
 use Rattle.std.specs.Option.{option_eq}
 use Rattle.group_tree.specs.Ancestors.{depth_at}
 use Rattle.group_tree.specs.declared.group.Group.{Group}
@@ -87,11 +87,28 @@ NothingSetProtectsNothing =
     (key : Key) (ledger : Ledger) (target group : ℕ) → are_protecting ledger.settings ≡ false
     → effective key ledger target group ≡ 0
 
--- memory.min may keep the group's pages from a reclaim for the group `limited`: they are no more than memory.min of the
--- group right below `limited` on the path, which isn't 0
-pub record IsKeptByMin (ledger : Ledger) (limited group : ℕ) : Type 0 where
-  pub top : ℕ
-  pub child : parent_of ledger.groups top ≡ Some limited
-  pub above : in_subtree ledger.groups top group ≡ true
-  pub some : 1 ≤ setting Min ledger top
-  pub few : current_of ledger group ≤ setting Min ledger top
+-- Memory.min keeps the group's pages from a reclaim for the group `limited`, which led from one ledger to the other:
+-- they are no more than it protected when the group's turn came, which wasn't 0. Each usage was then between its values
+-- before and after, and groups and settings were those of now.
+pub record IsKeptByMin (before after : Ledger) (limited group : ℕ) : Type 0 where
+  pub turn : Ledger
+  pub groups : after.groups ≡ turn.groups
+  pub settings : after.settings ≡ turn.settings
+  pub since : (other : ℕ) → current_of turn other ≤ current_of before other
+  pub until : (other : ℕ) → current_of after other ≤ current_of turn other
+  pub some : 1 ≤ effective Min turn limited group
+  pub few : current_of after group ≤ effective Min turn limited group
+
+-- the group is below `limited` and on the path of the other group, or that group itself
+pub record IsOnPathBelow (ledger : Ledger) (limited group above : ℕ) : Type 0 where
+  pub below : in_subtree ledger.groups limited above ≡ true
+  pub other : above ≢ limited
+  pub on_path : in_subtree ledger.groups above group ≡ true
+
+-- memory.min keeps no group whose usage is above each memory.min on its path below the limit
+abbrev pub UsageAboveEachMinIsNotKept : Type 0
+UsageAboveEachMinIsNotKept =
+    (before after : Ledger) (limited group : ℕ) → AreGroups after.groups
+    → in_subtree after.groups limited group ≡ true
+    → ((above : ℕ) → IsOnPathBelow after limited group above → setting Min after above < current_of after group)
+    → ¬ IsKeptByMin before after limited group

@@ -1,12 +1,12 @@
 -- Laws of kills and refills. Serves `laws`, and those of the commands.
-use Rattle.std.proofs.Common.{◌≡◌, ℕ, ◌+◌, ◌≤◌, ◌⊎◌, Bool, true, false, List, [], ◌∷◌, ◌++◌, Option, Some, None, length, refl, sym, ap, ◌∙◌, inl, inr, arith}
+use Rattle.std.proofs.Common.{◌≡◌, ℕ, ◌+◌, ◌⊎◌, Bool, true, false, List, [], ◌∷◌, ◌++◌, Option, Some, None, length, refl, sym, ap, ◌∙◌, inl, inr, arith}
 use Rattle.std.proofs.Common.{length-append}
 use Rattle.std.proofs.lemmas.Bool.{cases_lt, false≢true}
 use Rattle.std.proofs.lemmas.List.{append_assoc, append-nil}
 use Rattle.group_tree.specs.declared.group.Group.{Group}
-use Rattle.group_charge.specs.declared.settings.ReclaimSettings.{ReclaimSettings}
-use Rattle.group_charge.specs.Charges.{Ledger}
-use Rattle.group_protection.specs.Protections.{min_key, setting}
+use Rattle.group_protection.specs.Protections.{min_key}
+use Rattle.group_protection.proofs.Effective.{same_setting}
+use Rattle.group_protection.proofs.Topping.{kept_some_min}
 use Rattle.boot_words.specs.Tables.{KnownTable}
 use Rattle.cpu_part.specs.Cpus.{KnownCpuLists}
 use Rattle.step_rules.specs.After.{Run}
@@ -24,7 +24,7 @@ was_last MayAsk t start before g rest after = record {
   leads = after.leads;
   consistent = after.may.consistent;
   charges = after.may.charges;
-  settings = after.may.tied.settings;
+  tied = after.may.tied;
   limited = after.may.limited;
   need = after.may.need;
   asked = after.may.asked;
@@ -55,18 +55,12 @@ kills_come_last MayAsk t start steps before rest made g none is kills =
       set_is = after.set_is;
     }
 
--- what is set for a group is so in each ledger with these settings
-same_min : (a b : Ledger) (g : ℕ) → a.settings ≡ b.settings → setting min_key a g ≡ setting min_key b g
-same_min a b g is = ap (λ (l : List ReclaimSettings). setting min_key (record a { settings = l }) g) is
-
 pub tries_all_without_min : (MayAsk : List Group → ℕ → ℕ → Type 0) → TriesAllWithoutMin MayAsk
 tries_all_without_min MayAsk t start tried killed last none f home below kept clean = elim (last.frozen f home below kept clean) [
   | inl frozen ↦ frozen
   | inr spared ↦
-      let some = spared.some in
-      let same = same_min last.now.ledger start.ledger spared.top last.settings in
-      let z = none spared.top in
-      absurd (omega (arith, some, same, z))
+      absurd (kept_some_min start.ledger last.now.ledger last.limited home.owner
+      (λ other. same_setting min_key last.now.ledger start.ledger last.tied.settings other ∙ none other) spared)
 ]
 
 pub charges_try_all_without_min : ChargesTryAllWithoutMin

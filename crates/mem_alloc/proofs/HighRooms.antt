@@ -21,7 +21,7 @@ use Rattle.boot_words.specs.Tables.{KnownTable}
 use Rattle.mem_machine.specs.{KnownMachine, home_of, with_note, with_run, Makes, StaysVisited, note_steps, BySteps, Transition, transition}
 use Rattle.mem_machine.proofs.Followed.{makes_both, makes_none}
 use Rattle.mem_machine.proofs.Made.{visit_same}
-use Rattle.mem_reclaim.specs.{FreesBySteps, has_kill, ReclaimsRounds, max_rounds, pages_missing, IsDirtyUnit, Keeps, MissedAll}
+use Rattle.mem_reclaim.specs.{FreesBySteps, has_kill, ReclaimsRounds, max_rounds, pages_wanted, IsDirtyUnit, Keeps, MissedAll}
 use Rattle.mem_reclaim.proofs.Grown.{hold_after, misses_after, parts_after}
 use Rattle.mem_reclaim.proofs.Keeping.{keeps_none, keeps_both}
 use Rattle.mem_alloc.specs.High.{KeepToHigh, KeepsToHigh, PathHasHighRoom, ReclaimsHigh, has_high_room, high_of, with_high_noted_at}
@@ -84,12 +84,13 @@ module _ (t : KnownTable) (g need : ℕ) (m : KnownMachine) where
 
     pub high_reclaimed : high < current_of m.ledger g + need → (y x n : KnownMachine) (freed : ℕ) → y ≡ with_note m (High g high (current_of m.ledger g) need)
         → x ≡ record y { ledger = with_noted event.High y.ledger g; run = x.run } → Makes t y (note_steps key.High g) x
-        → FreesBySteps t freed x n (ReclaimsRounds g (pages_missing g need high) max_rounds) → (high < current_of n.ledger g + need → MissedAll g x n) → HighKept n
-    high_reclaimed more y x n freed told noted noting rounds missed =
+        → (batch : ℕ) → batch ≡ t.choices.reclaim_batch
+        → FreesBySteps t freed x n (ReclaimsRounds g (pages_wanted batch g need high) max_rounds) → (high < current_of n.ledger g + need → MissedAll g x n) → HighKept n
+    high_reclaimed more y x n freed told noted noting batch chosen rounds missed =
         let is = high_noted t g high need m y x told noted noting in
         let first = high_runs t g high need m y x told noted noting in
-        let here : FreesBySteps t freed (with_run (with_high_noted_at m g high need) x.run) n (ReclaimsRounds g (pages_missing g need high) max_rounds) =
-        subst (λ (k : KnownMachine). FreesBySteps t freed k n (ReclaimsRounds g (pages_missing g need high) max_rounds)) is rounds in
+        let here : FreesBySteps t freed (with_run (with_high_noted_at m g high need) x.run) n (ReclaimsRounds g (pages_wanted t.choices.reclaim_batch g need high) max_rounds) =
+        subst (λ (k : KnownMachine × ℕ). FreesBySteps t freed k.0 n (ReclaimsRounds g (pages_wanted k.1 g need high) max_rounds)) (λ i. (is i, chosen i)) rounds in
         record {
           steps = note_steps key.High g ++ here.steps;
           does = subst (λ (o : Option ℕ). KeepsToHigh o g need (transition t m (note_steps key.High g ++ here.steps) n)) (sym some) (inr (record {

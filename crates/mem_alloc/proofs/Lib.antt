@@ -13,3 +13,5 @@ pub mod CallerLemmas
 pub mod ComingLast
 pub mod KillLaws
 pub mod Refused
+pub mod KillBreaking
+pub mod RashSteps

@@ -23,9 +23,10 @@ use Rattle.step_rules.specs.declared.step.Answer.{Answer}
 use Rattle.step_rules.specs.declared.step.Step.{Step}
 use Rattle.step_rules.specs.{Part, Run}
 use Rattle.mem_machine.specs.{HeadsKeptUnit, KnownMachine, home_of, part_at, with_note, with_run, Makes, VisitState, visit_state}
-use Rattle.mem_machine.specs.{note_group_kill_steps, note_oom_steps, over_steps, AreDrained, HasDrained, Drains, of_subtree, stock_group}
+use Rattle.mem_machine.specs.{note_group_kill_steps, note_oom_steps, over_steps, AreDrained, HasDrained, Drains, of_subtree, stock_group, uncharged}
 use Rattle.mem_machine.specs.{MachineStays, OfMachineAlone, Transition, transition}
 use Rattle.mem_machine.proofs.Draining.{groups_stay}
+use Rattle.mem_machine.proofs.Falling.{current_falls}
 use Rattle.mem_machine.proofs.Followed.{makes_both, makes_none}
 use Rattle.mem_reclaim.specs.declared.sets.Killed.{Killed}
 use Rattle.mem_reclaim.specs.{has_kill, is_kill, killed_by, kills_in, Keeps, MissedAll, IsKilledBy, KillsGroups, KillsRootOrVictim, OnlyDrains}
@@ -125,15 +126,16 @@ set_first false t g killed m steps n h = inr (ap begins_with_kill h.kills.steps_
 
 -- ---- what steps leave of the machine
 
--- the steps lead there, no unit came onto a list or changed its dirt, and settings stay
+-- the steps lead there, no unit came onto a list or changed its dirt, settings stay, and no usage rises
 pub record Passes (t : KnownTable) (m : KnownMachine) (steps : Run) (n : KnownMachine) : Type 0 where
   pub runs : Makes t m steps n
   pub owners : (f : ℕ) → HeadsKeptUnit n f → owner_of (home_of n.links f) ≡ owner_of (home_of m.links f)
   pub dirt : (f : ℕ) → HeadsKeptUnit n f → (link_at n.links f).is_dirty ≡ (link_at m.links f).is_dirty
   pub settings : n.ledger.settings ≡ m.ledger.settings
+  pub usage : (g : ℕ) → current_of n.ledger g ≤ current_of m.ledger g
 
 pub passes_none : (t : KnownTable) (m : KnownMachine) → Passes t m [] m
-passes_none t m = record { runs = makes_none t m; owners = λ f is. refl; dirt = λ f is. refl; settings = refl }
+passes_none t m = record { runs = makes_none t m; owners = λ f is. refl; dirt = λ f is. refl; settings = refl; usage = λ g. omega arith }
 
 owned : (o was : Option Home) → o ≢ None → owner_of o ≡ owner_of was → was ≢ None
 owned None was kept same none = kept refl
@@ -148,16 +150,18 @@ passes_both t m x n one two a b = record {
   owners = λ f is. b.owners f is ∙ a.owners f (was_kept t x n two b f is);
   dirt = λ f is. b.dirt f is ∙ a.dirt f (was_kept t x n two b f is);
   settings = b.settings ∙ a.settings;
+  usage = λ g. let x = a.usage g in let y = b.usage g in omega (arith, x, y);
 }
 
 -- steps by which the lists stay
 pub passes_same : (t : KnownTable) (m n : KnownMachine) (steps : Run) → Makes t m steps n → n.links ≡ m.links
-    → n.ledger.settings ≡ m.ledger.settings → Passes t m steps n
-passes_same t m n steps runs links settings = record {
+    → n.ledger.settings ≡ m.ledger.settings → ((g : ℕ) → current_of n.ledger g ≤ current_of m.ledger g) → Passes t m steps n
+passes_same t m n steps runs links settings usage = record {
   runs = runs;
   owners = λ f is. ap (λ (l : List Link). owner_of (home_of l f)) links;
   dirt = λ f is. ap (λ (l : List Link). (link_at l f).is_dirty) links;
   settings = settings;
+  usage = usage;
 }
 
 -- ---- drains
@@ -167,18 +171,23 @@ pub record SameUnits (m n : KnownMachine) : Type 0 where
   pub links : n.links ≡ m.links
   pub groups : n.ledger.groups ≡ m.ledger.groups
   pub settings : n.ledger.settings ≡ m.ledger.settings
+  pub usage : (g : ℕ) → current_of n.ledger g ≤ current_of m.ledger g
 
 pub drain_same : (t : KnownTable) (m n : KnownMachine) (q k : ℕ) → Drains t q k m n → SameUnits m n
 drain_same t m n q k d = record {
   links = ap (λ (x : KnownMachine). x.links) d.machine;
   groups = ap (λ (x : KnownMachine). x.ledger.groups) d.machine ∙ groups_stay m.ledger (stock_group t m q) k;
   settings = ap (λ (x : KnownMachine). x.ledger.settings) d.machine ∙ settings_stay m.ledger (stock_group t m q) k;
+  usage = λ g.
+      let e : current_of n.ledger g ≡ current_of (uncharged m.ledger (stock_group t m q) k) g = ap (λ (x : KnownMachine). current_of x.ledger g) d.machine in
+      let low = current_falls m.ledger (stock_group t m q) k g in
+      omega (arith, e, low);
 }
 
 -- ---- rounds of reclaim
 
 pub keeps_pass : (t : KnownTable) (m n : KnownMachine) (steps : Run) → Makes t m steps n → Keeps t m n → Passes t m steps n
-keeps_pass t m n steps runs keeps = record { runs = runs; owners = keeps.owners; dirt = keeps.dirt; settings = keeps.settings }
+keeps_pass t m n steps runs keeps = record { runs = runs; owners = keeps.owners; dirt = keeps.dirt; settings = keeps.settings; usage = keeps.usage }
 
 -- ---- no kill too early, in a part of a call's steps
 
@@ -296,6 +305,7 @@ module _ (t : KnownTable) (MayAsk : List Group → ℕ → ℕ → Type 0) (s : 
         ap owner_of (there.1 ∙ sym (keeps.leaves f there.0 there.1));
     dirt = keeps.dirt;
     settings = keeps.settings;
+    usage = keeps.usage;
   }
 
   still_drained : (g : ℕ) (m n : KnownMachine) → n.ledger.groups ≡ m.ledger.groups → OnlyDrains t m n → AreDrained t g m → AreDrained t g n
@@ -311,7 +321,7 @@ module _ (t : KnownTable) (MayAsk : List Group → ℕ → ℕ → Type 0) (s : 
         let p = all f list there (sym (keeps.dirt f kept) ∙ clean) in
         let q = keeps.misses f in
         omega (arith, p, q))
-    | inr spared ↦ inr (kept_still m.ledger n.ledger g other keeps.groups keeps.settings (keeps.usage other) spared)
+    | inr spared ↦ inr (kept_still s.ledger s.ledger m.ledger n.ledger g other keeps.groups keeps.settings (λ h. omega arith) keeps.usage spared)
   ]
 
   ready_more : (r : Option ℕ) (g pages : ℕ) (killed : Killed) (made : Run) (m : KnownMachine) (steps : Run) (n : KnownMachine) → Ready g made m
@@ -385,7 +395,8 @@ module _ (t : KnownTable) (MayAsk : List Group → ℕ → ℕ → Type 0) (s : 
       → MayAsk m.ledger.groups g pages → Passes t s made m → AreDrained t g m → MissedAll g s m → KillsUntilRoom r g pages (transition t m steps n) → Tame made m steps n
   tame_victims r g pages made m steps n allowed asked since drained missed h =
       let x = with_run (with_oom_noted_at m g) h.seen in
-      let note = passes_same t m x (note_oom_steps g) h.notes refl refl in
+      let uses : (h : ℕ) → current_of x.ledger h ≡ current_of m.ledger h = usage-noted event.Oom m.ledger.groups m.ledger.accounts g in
+      let note = passes_same t m x (note_oom_steps g) h.notes refl refl (λ h. let e = uses h in omega (arith, e)) in
       let here = held_after t s made m since.runs held_there in
       let ready : Ready g (made ++ note_oom_steps g) x = record {
         since = passes_both t s m x made (note_oom_steps g) since note;
@@ -397,8 +408,7 @@ module _ (t : KnownTable) (MayAsk : List Group → ℕ → ℕ → Type 0) (s : 
               let q = misses_after t m (note_oom_steps g) x h.notes here f in
               omega (arith, p, q))
           | inr spared ↦
-              let e : current_of x.ledger other ≡ current_of m.ledger other = usage-noted event.Oom m.ledger.groups m.ledger.accounts g other in
-              inr (kept_still m.ledger x.ledger g other refl refl (omega (arith, e)) spared)
+              inr (kept_still s.ledger s.ledger m.ledger x.ledger g other refl refl (λ h. omega arith) (λ h. let e = uses h in omega (arith, e)) spared)
         ];
       } in
       subst (λ (k : Run). Tame made m k n) (sym h.steps_are) (tame_both made m x n (note_oom_steps g) h.killing
@@ -428,13 +438,13 @@ module _ (t : KnownTable) (MayAsk : List Group → ℕ → ℕ → Type 0) (s : 
         let p = all f list is clean in
         let q = misses_after t s made m since.runs held_there f in
         omega (arith, p, q))
-    | inr spared ↦ inr spared
+    | inr spared ↦ inr (kept_still s.ledger m.ledger n.ledger n.ledger g other refl refl since.usage (λ h. omega arith) spared)
   ]
 
   clears_tame : (g pages : ℕ) (made : Run) (m : KnownMachine) (steps : Run) (n : KnownMachine) → ClearsBelow g pages (transition t m steps n) → Tame made m steps n
   clears_tame g pages made m steps n h =
       let same = drains_leave t (of_subtree g) t.cpus (with_run (with_max_noted_at m g pages) h.seen) n h.drains h.all in
-      tame_quiet made m steps n (passes_same t m n steps h.runs same.links same.settings) same.groups (ap has_kill h.steps_are ∙ (quiet_drains h.drains).no_kill)
+      tame_quiet made m steps n (passes_same t m n steps h.runs same.links same.settings (λ h. let low = same.usage h in let e = usage-noted event.Max m.ledger.groups m.ledger.accounts g h in omega (arith, low, e))) same.groups (ap has_kill h.steps_are ∙ (quiet_drains h.drains).no_kill)
 
   reclaims_tame : (g pages : ℕ) (made : Run) (m : KnownMachine) (steps : Run) (n : KnownMachine) → ReclaimsFor g pages (transition t m steps n)
       → Tame made m steps n
@@ -478,7 +488,7 @@ module _ (t : KnownTable) (MayAsk : List Group → ℕ → ℕ → Type 0) (s : 
     refused_tame over answer made m steps n is since h =
         let first = over_steps g pages over in
         let x = with_run m h.seen in
-        let refused = passes_same t m x first h.refuses refl refl in
+        let refused = passes_same t m x first h.refuses refl refl (λ h. omega arith) in
         let here : in_subtree base over g ≡ true = ap (λ (l : List Group). in_subtree l over g) (sym is) ∙ h.lowest.on_path in
         let asked = λ (few : pages ≤ 8). subst (λ (l : List Group). MayAsk l over pages) (sym is) (asks over here few) in
         let relieved = relieves_tame g over pages (made ++ first) x h.relieving n asked (passes_both t s m x made first since refused) h.relieves in

@@ -1,9 +1,10 @@
 -- No kill of an allocation comes before everything else was tried. Serves the calls that name the steps of an Alloc.
-use Rattle.std.proofs.Common.{◌≡◌, ℕ, ◌≤◌, ◌^◌, true, false, List, [], ◌++◌, refl, sym, ap, ◌∙◌, subst, inl, inr}
+use Rattle.std.proofs.Common.{◌≡◌, ℕ, ◌≤◌, ◌^◌, true, false, List, [], ◌++◌, refl, sym, ap, ◌∙◌, subst, inl, inr, arith}
 use Rattle.std.specs.Prelude.{Result, Ok, Err}
 use Rattle.boot_words.specs.Pasts.{IsHeld}
 use Rattle.group_tree.specs.declared.group.Group.{Group}
 use Rattle.group_tree.specs.Groups.{in_subtree}
+use Rattle.group_charge.specs.Charges.{current_of}
 use Rattle.zone_blocks.specs.declared.config.Config.{Config}
 use Rattle.boot_words.specs.Tables.{KnownTable}
 use Rattle.cpu_part.specs.Cpus.{KnownCpuLists}
@@ -37,7 +38,7 @@ module _ (t : KnownTable) (MayAsk : List Group → ℕ → ℕ → Type 0) (s : 
       (λ i. (sym h.1.steps_are i, sym h.1.machine i)) (passes_none t x, refl, refl)
   no_batch_passes sizes x steps y (inr h) = (
     passes_same t x y steps (subst (λ (k : Run). Makes t x k y) (sym h.steps_are) h.refuses) (ap (λ (z : KnownMachine). z.links) h.machine)
-        (ap (λ (z : KnownMachine). z.ledger.settings) h.machine),
+        (ap (λ (z : KnownMachine). z.ledger.settings) h.machine) (λ k. let e = ap (λ (z : KnownMachine). current_of z.ledger k) h.machine in omega (arith, e)),
     ap (λ (z : KnownMachine). z.ledger.groups) h.machine,
     ap has_kill h.steps_are,
   )
@@ -74,7 +75,7 @@ module _ (t : KnownTable) (MayAsk : List Group → ℕ → ℕ → Type 0) (s : 
         let h = all.does in
         let x = h.between in
         let same = drain_same t s x.machine c.number h.first.drained h.first.drains in
-        let passes = passes_same t s x.machine h.earlier h.first.runs same.links same.settings in
+        let passes = passes_same t s x.machine h.earlier h.first.runs same.links same.settings same.usage in
         let charges = subst (λ (y : KnownCpuLists). FillsDrainedStock sizes g answer (transition t (visit_state x.machine y) h.later n)) h.first.cpu h.second in
         subst (λ (k : Run). RashFree t MayAsk s [] k) (sym h.steps_are) (rash_both t MayAsk s held_there [] h.earlier h.later
         (rash_quiet t MayAsk s held_there [] h.earlier (drains_calm (transition t (visit_state s c) h.earlier x) h.first))

@@ -8,7 +8,7 @@ use Rattle.group_charge.specs.declared.note.Note.TheVariants.{High}
 use Rattle.step_rules.specs.declared.step.NoteKey.TheVariants as key
 use Rattle.step_rules.specs.After.{Run}
 use Rattle.mem_machine.specs.{KnownMachine, with_run, Makes, KnownRun, note_steps, InTurn, MachineStays, Transition}
-use Rattle.mem_reclaim.specs.{FreesPages, has_kill, ReclaimsRounds, max_rounds, pages_missing, Keeps, MissedAll, progress}
+use Rattle.mem_reclaim.specs.{FreesPages, has_kill, ReclaimsRounds, max_rounds, pages_wanted, Keeps, MissedAll, progress}
 
 -- memory.high of the group, in pages
 abbrev pub high_of : Ledger → ℕ → Option ℕ
@@ -32,8 +32,9 @@ with_high_noted_at machine group high need = record machine {
 }
 
 -- An event `high` is noted at the group, which the run notes. Then clean units of its subtree are freed in rounds,
--- until its usage with this many more pages is at most `high`. If it is still more, each clean unit that the subtree
--- still keeps was tried and missed, or memory.min keeps it.
+-- until its usage with this many more pages is at most `high`. Each round wants at least as many pages as the boot
+-- chose. If the usage is still more, each clean unit that the subtree still keeps was tried and missed, or memory.min
+-- keeps it.
 pub record ReclaimsToHigh (group need high : ℕ) (call : Transition KnownMachine) : Type 0 where
   pub over : high < current_of call.before.ledger group + need
   pub seen : KnownRun
@@ -41,7 +42,7 @@ pub record ReclaimsToHigh (group need high : ℕ) (call : Transition KnownMachin
   pub later : Run
   pub notes : Makes call.table call.before (note_steps key.High group)
       (with_run (with_high_noted_at call.before group high need) seen)
-  pub rounds : ReclaimsRounds group (pages_missing group need high) max_rounds
+  pub rounds : ReclaimsRounds group (pages_wanted call.table.choices.reclaim_batch group need high) max_rounds
       (progress freed (with_run (with_high_noted_at call.before group high need) seen) later call.after)
   pub missed : high < current_of call.after.ledger group + need
       → MissedAll group (with_run (with_high_noted_at call.before group high need) seen) call.after

@@ -12,19 +12,20 @@ use Rattle.step_rules.specs.declared.step.Step.{Step}
 use Rattle.step_rules.specs.After.{Run}
 use Rattle.boot_words.specs.Pasts.{IsHeld}
 use Rattle.boot_words.specs.Tables.{KnownTable}
-use Rattle.mem_machine.specs.{IsConsistent, KnownMachine, home_of, VisitState, lock_holder, local_of, AreDrained, Transition}
+use Rattle.mem_machine.specs.{IsConsistent, KnownMachine, home_of, VisitState, lock_holder, local_of, AreDrained, Transition, transition}
 use Rattle.mem_machine.specs.Local.{IsLocalRun}
 use Rattle.mem_reclaim.specs.declared.sets.Killed.{Killed}
 use Rattle.mem_reclaim.specs.{kills_in, missed_in, IsKilledRoot, MissedAll, kill_set, IsVictim}
 use Rattle.mem_alloc.specs.declared.faults.AllocFault.TheVariants.{Over}
 use Rattle.mem_alloc.specs.Frames.{HasNoFreeFrame, LendsBatch}
 use Rattle.mem_alloc.specs.Kills.{IsAlive, KillsForRoom, has_room_at}
-use Rattle.mem_alloc.specs.NoRash.{IsChargedBelow, NoRashKill, has_oom_note}
+use Rattle.mem_alloc.specs.NoRash.{IsChargedBelow, IsLeftBySteps, NoRashKill, has_oom_note}
 use Rattle.mem_alloc.specs.Room.{IsRefusedAt}
 
 -- By these first steps of a call, everything else was tried for the limit of the group `limited`, which has no room.
--- The steps lead to a consistent machine, and each group keeps its memory.min. One of them notes `oom` there, and each stock of the subtree is drained. For
--- each clean unit that the subtree still keeps and that memory.min doesn't, one of these steps is a freeze that missed.
+-- The steps lead to a consistent machine, the one that they left: no unit changed its group or its dirt, and each group
+-- has the memory.min from before. One of them notes `oom` there, and each stock of the subtree is drained. For each
+-- clean unit that the subtree still keeps and that memory.min doesn't, one of these steps is a freeze that missed.
 -- `killed` is the victim for this limit, with its killed root.
 pub record WasLast (MayAsk : List Group → ℕ → ℕ → Type 0) (table : KnownTable) (start : KnownMachine)
     (tried : Run) (killed : Killed) : Type 0 where
@@ -32,7 +33,7 @@ pub record WasLast (MayAsk : List Group → ℕ → ℕ → Type 0) (table : Kno
   pub leads : IsLocalRun (lock_holder start) (local_of table start) tried (local_of table now)
   pub consistent : IsConsistent table now
   pub charges : AreCharges now.ledger
-  pub settings : now.ledger.settings ≡ start.ledger.settings
+  pub tied : IsLeftBySteps (transition table start tried now)
   pub limited : ℕ
   pub need : ℕ
   pub asked : MayAsk now.ledger.groups limited need
@@ -41,7 +42,7 @@ pub record WasLast (MayAsk : List Group → ℕ → ℕ → Type 0) (table : Kno
   pub drained : AreDrained table limited now
   pub frozen : (frame : ℕ) (home : Home) → in_subtree now.ledger.groups limited home.owner ≡ true
       → home_of now.links frame ≡ Some home → (link_at now.links frame).is_dirty ≡ false
-      → (1 ≤ missed_in frame tried) ⊎ IsKeptByMin now.ledger limited home.owner
+      → (1 ≤ missed_in frame tried) ⊎ IsKeptByMin start.ledger now.ledger limited home.owner
   pub chosen : IsVictim now limited (Some killed.victim)
   pub killed_root_is : IsKilledRoot now.ledger.groups limited killed
 

@@ -8,6 +8,7 @@ pub mod Blocks
 pub mod NoRash
 pub mod Laws
 pub mod KillLaws
+pub mod KillBreaches
 -- what other crates and the proofs import by one name, `Rattle.mem_alloc.specs`
 pub use Rattle.mem_alloc.specs.Kills.{IsAlive, KillsForRoom, KillsIfAllowed, KillsOneVictim, KillsUntilRoom, KillsVictims, NeedsRoom, UnlessNoKill}
 pub use Rattle.mem_alloc.specs.Kills.{has_room_at, with_oom_noted_at}

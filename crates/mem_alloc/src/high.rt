@@ -12,7 +12,7 @@ use group_charge::charges::Charges;
 use group_charge::note::Note;
 use group_tree::group::GroupId;
 use mem_machine::Machine;
-use mem_reclaim::reclaim_to_limit;
+use mem_reclaim::reclaim_in_batches;
 use step_rules::step::NoteKey;
 
 // Whether memory.high of the group has room for this many more pages.
@@ -41,8 +41,8 @@ pub(crate) fn path_has_high_room(charges: &Charges, group: GroupId, pages: u32) 
     true
 }
 
-// If `need` more pages would take the group's usage over its memory.high, notes that, and reclaims in rounds from its
-// subtree.
+// If `need` more pages would take the group's usage over its memory.high, notes that, and reclaims from its subtree in
+// rounds that each want at least as many pages as the boot chose (`reclaim_batch`).
 fn keep_to_high<N: BootName>(
     machine: &mut Machine<N>,
     tables: &Tables<N>,
@@ -69,7 +69,8 @@ fn keep_to_high<N: BootName>(
         need,
     });
     machine.note_event(tables, NoteKey::High, group);
-    reclaim_to_limit(machine, tables, group, need, high);
+    let batch = tables.words.choices().reclaim_batch;
+    reclaim_in_batches(machine, tables, group, need, high, batch);
 }
 
 // Does so for the group and then for each ancestor, up to the root. Not inline, so that a charge below each memory.high

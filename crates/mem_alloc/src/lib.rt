@@ -6,6 +6,7 @@
 #![tactic(auto)]
 
 mod blocks;
+pub mod breaches;
 mod charging;
 mod faults;
 mod frames;

@@ -16,3 +16,4 @@ pub mod Dying
 pub mod Rising
 pub mod Noted
 pub mod Turns
+mod FewMore

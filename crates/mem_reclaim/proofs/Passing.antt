@@ -1,5 +1,5 @@
 -- Passes over a group and over the groups of a subtree. Serves all of `passes` and `reclaiming`.
-use Rattle.std.proofs.Common.{◌≡◌, ◌≢◌, ℕ, ◌+◌, ◌-◌, ◌^◌, ◌<◌, ◌≤◌, ◌==◌, ◌&&◌, Bool, true, false, List, [], ◌∷◌, ◌++◌, cond}
+use Rattle.std.proofs.Common.{◌≡◌, ◌≢◌, ℕ, ◌+◌, ◌-◌, ◌<◌, ◌≤◌, ◌==◌, ◌&&◌, Bool, true, false, List, [], ◌∷◌, ◌++◌, cond}
 use Rattle.std.proofs.Common.{refl, sym, ap, ◌∙◌, subst, inl, inr, arith, nat_lt}
 use Rattle.std.specs.Prelude.{Option, Some, None, filter, min, not}
 use Rattle.std.specs.Int.{bit_at}
@@ -202,7 +202,7 @@ pub record TurnTaken (t : KnownTable) (pass : Pass) (target g want freed : ℕ) 
   pub turn : FreesBySteps t freed m n (TakesTurn pass target g want)
   pub keeps : Keeps t m n
   pub usage : UsageFalls g freed m n
-  pub few : freed < want + 2 ^ 32
+  pub few : freed < want + 1024
   pub leaves : is_first pass ≡ false → OnlyLeave m n
   pub tried : is_last pass m.ledger.settings ≡ true → freed < want → MissedOrKept target g m n
 
@@ -259,7 +259,7 @@ module _ (t : KnownTable) (pass : Pass) (target g want of_min of_low usage spare
   kept : (n : KnownMachine) → Keeps t m n → is_last pass m.ledger.settings ≡ true → spared ≢ 0 → current_of n.ledger g ≤ spared → MissedOrKept target g m n
   kept n keeps last some few =
       let e = spares ∙ last_spares_min pass last in
-      inr (kept_by_min m.ledger n.ledger target g (subst (λ (k : Ledger). AreGroups k.groups) same facts) keeps.groups keeps.settings below
+      inr (kept_by_min m.ledger n.ledger target g keeps.groups keeps.settings keeps.usage
       (λ none. some (e ∙ min_is ∙ none)) (omega (arith, few, e, min_is)))
 
   wants_all : spared ≡ 0 → wanted ≡ want
@@ -291,7 +291,7 @@ module _ (t : KnownTable) (pass : Pass) (target g want of_min of_low usage spare
 
   -- the turn has begun
   turn_begun : wanted ≢ 0 → (freed : ℕ) (n : KnownMachine) → FreesBySteps t freed x n (BeginsItsTurn g (ReclaimsGroup pass of_min of_low usage g wanted))
-      → Keeps t x n → in_subtree m.ledger.groups g g ≡ true → UsageFalls g freed x n → freed < wanted + 2 ^ 32
+      → Keeps t x n → in_subtree m.ledger.groups g g ≡ true → UsageFalls g freed x n → freed < wanted + 1024
       → (is_first pass ≡ false → OnlyLeave x n) → (is_first pass ≡ false → freed < wanted → MissedOfGroup g x n) → TurnTaken t pass target g want freed m n
   turn_begun some freed n leads keeps own falls few leaves missed =
       let still : Keeps t m n = keeps_after_notes t m n x.notes (subst (λ (k : KnownMachine). Keeps t k n) notes_alone keeps) in
@@ -328,7 +328,7 @@ module _ (t : KnownTable) (pass : Pass) (target g want of_min of_low usage spare
 
   pub turn_some : wanted ≢ 0 → (y : KnownMachine) → y ≡ with_turn x g → (freed : ℕ) (n : KnownMachine)
       → FreesBySteps t freed y n (ReclaimsGroup pass of_min of_low usage g wanted)
-      → Keeps t y n → in_subtree m.ledger.groups g g ≡ true → UsageFalls g freed y n → freed < wanted + 2 ^ 32
+      → Keeps t y n → in_subtree m.ledger.groups g g ≡ true → UsageFalls g freed y n → freed < wanted + 1024
       → (is_first pass ≡ false → OnlyLeave y n) → (is_first pass ≡ false → freed < wanted → MissedOfGroup g y n) → TurnTaken t pass target g want freed m n
   turn_some some y turned freed n leads' keeps' own falls' few leaves' missed' =
       turn_begun some freed n (after_turn t x n g freed (ReclaimsGroup pass of_min of_low usage g wanted)
@@ -340,7 +340,7 @@ module _ (t : KnownTable) (pass : Pass) (target g want of_min of_low usage spare
 -- what was tried stays tried, also counted from before
 tried_still : (t : KnownTable) (target other : ℕ) (a b c d : KnownMachine) → Keeps t a b → Keeps t c d → OnlyLeave c d → MissedOrKept target other b c → MissedOrKept target other a d
 tried_still t target other a b c d first last only (inl missed) = inl (λ f list. missed_still t a b c d first last only f (record { owner = other; list = list }) (missed f list))
-tried_still t target other a b c d first last only (inr kept) = inr (kept_still c.ledger d.ledger target other last.groups last.settings (last.usage other) kept)
+tried_still t target other a b c d first last only (inr kept) = inr (kept_still a.ledger b.ledger c.ledger d.ledger target other last.groups last.settings first.usage last.usage kept)
 
 -- ---- a pass
 
@@ -350,7 +350,7 @@ pub record PassSoFar (t : KnownTable) (pass : Pass) (g want : ℕ) (m : KnownMac
   pub left : (k : ℕ) → k < 64 → bit_at rest k ≡ 1 → in_subtree m.ledger.groups g k ≡ true
   pub keeps : Keeps t m now
   pub usage : current_of now.ledger g + freed ≡ current_of m.ledger g
-  pub few : freed < want + 2 ^ 32
+  pub few : freed < want + 1024
   pub leaves : is_first pass ≡ false → OnlyLeave m now
   pub tried : is_last pass m.ledger.settings ≡ true → freed < want → (other : ℕ) → other < 64 → bit_at all other ≡ 1 → bit_at rest other ≢ 1
       → MissedOrKept g other m now
@@ -378,7 +378,7 @@ module _ (t : KnownTable) (pass : Pass) (g want : ℕ) (m : KnownMachine) (all r
   pub pass_more : freed < want → (turn k : ℕ) → turn ≡ k → (k < 64) × (bit_at rest k ≡ 1) × ((i : ℕ) → i < k → bit_at rest i ≡ 0)
       → (left : ℕ) → (bit_at left k ≡ 0) × (left < rest) × ((i : ℕ) → i < 64 → i ≢ k → bit_at left i ≡ bit_at rest i)
       → (some : ℕ) (then : KnownMachine) → FreesBySteps t some now then (TakesTurn pass g turn (want - freed))
-      → Keeps t now then → UsageFalls turn some now then → some < want - freed + 2 ^ 32 → (is_first pass ≡ false → OnlyLeave now then)
+      → Keeps t now then → UsageFalls turn some now then → some < want - freed + 1024 → (is_first pass ≡ false → OnlyLeave now then)
       → (is_last pass now.ledger.settings ≡ true → some < want - freed → MissedOrKept g turn now then) → PassSoFar t pass g want m all left (freed + some) then
   pass_more wanted turn k at found left taken some then leads keeps usage few leaves tried =
       let inside = turn_inside turn k at found.0 found.1 in

@@ -1,5 +1,5 @@
 -- A scan of one list, as far as it came. Serves `scan`.
-use Rattle.std.proofs.Common.{◌≡◌, ◌≢◌, ℕ, ◌+◌, ◌^◌, ◌<◌, ◌≤◌, ◌==◌, ◌||◌, ◌⊎◌, Bool, true, false, Option, Some, None, List, [], ◌∷◌, ◌++◌, length}
+use Rattle.std.proofs.Common.{◌≡◌, ◌≢◌, ℕ, ◌+◌, ◌<◌, ◌≤◌, ◌==◌, ◌||◌, ◌⊎◌, Bool, true, false, Option, Some, None, List, [], ◌∷◌, ◌++◌, length}
 use Rattle.std.proofs.Common.{refl, sym, ap, ◌∙◌, subst, inl, inr, arith}
 use Rattle.std.proofs.lemmas.Bool.{cases_eq, ne_eqb, false≢true}
 use Rattle.std.proofs.lemmas.Option.{none-some}
@@ -41,7 +41,7 @@ pub record ScanSoFar (t : KnownTable) (spares_marked : Bool) (g : ℕ) (list : L
   pub so_far : SoFar t (TriesReclaim spares_marked g) (entries_in m g list) want m todo freed now
   pub keeps : Keeps t m now
   pub usage : (x : ℕ) → in_subtree m.ledger.groups x g ≡ true → current_of now.ledger x + freed ≡ current_of m.ledger x
-  pub few : freed < want + 2 ^ 32
+  pub few : freed < want + 1024
   pub leaves : spares_marked ≡ false → OnlyLeave m now
   pub missed : spares_marked ≡ false → MissedOrLeft m g list now todo
 
@@ -109,7 +109,7 @@ module _ (t : KnownTable) (spares_marked : Bool) (g : ℕ) (fits : g < 64) (list
   abbrev here : Here t g list now s.stayed s.todo u
   here = scan_here
 
-  module _ (r : ℕ) (then : KnownMachine) (inactive : spares_marked ≡ true → list ≡ Inactive) (wanted : freed < want) (small : r < 2 ^ 32)
+  module _ (r : ℕ) (then : KnownMachine) (inactive : spares_marked ≡ true → list ≡ Inactive) (wanted : freed < want) (small : r ≤ 1024)
       (leads : FreesBySteps t r now then (TriesReclaim spares_marked g u 1)) (keeps : Keeps t now then)
       (usage : (x : ℕ) → in_subtree now.ledger.groups x g ≡ true → current_of then.ledger x + r ≡ current_of now.ledger x)
       (newer : Option Entry) (f : ℕ) (at : f ≡ u.number) (newer_is : newer ≡ entry_after f (entries_in now g list)) where

@@ -1,5 +1,5 @@
 -- The order of turns. Serves the laws about it.
-use Rattle.std.proofs.Common.{◌≡◌, ℕ, ◌==◌, Bool, false, Option, Some, None, List, refl, sym, ◌∙◌, cond}
+use Rattle.std.proofs.Common.{◌≡◌, ℕ, ◌==◌, false, Option, Some, None, List, refl, sym, ◌∙◌, cond}
 use Rattle.std.specs.Prelude.{not, nat_lt, filter, is_some}
 use Rattle.std.specs.List.{count_by}
 use Rattle.std.proofs.lemmas.Bool.{false≢true}

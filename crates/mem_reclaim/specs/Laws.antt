@@ -1,21 +1,24 @@
 -- What holds of every kill and every reclaim. The promise of memory.oom.group is that of cgroup-v2.rst: a flagged group
 -- is killed as a whole, or no group of it is.
-use Rattle.std.specs.Prelude.{◌≡◌, ℕ, ◌-◌, ◌<◌, ◌≤◌, ◌==◌, ◌⊎◌, true, false, Option, Some, List, Contains}
+use Rattle.std.specs.Prelude.{◌≡◌, ℕ, ◌+◌, ◌-◌, ◌^◌, ◌<◌, ◌≤◌, ◌==◌, ◌⊎◌, true, false, Option, Some, List, Contains}
 use Rattle.std.specs.List.{count_by}
 use Rattle.group_tree.specs.{AreGroups, in_subtree, is_oom_group, max_count}
 use Rattle.group_charge.specs.Charges.{current_of}
-use Rattle.group_protection.specs.Protections.{IsKeptByMin, effective, min_key}
+use Rattle.group_protection.specs.Protections.{IsKeptByMin, effective, low_key, min_key}
 use Rattle.lru_lists.specs.declared.record.Home.{Home}
 use Rattle.lru_lists.specs.Queue.{link_at}
+use Rattle.step_rules.specs.declared.phase.ChargedUnit.{ChargedUnit}
 use Rattle.step_rules.specs.After.{Run}
 use Rattle.group_charge.specs.declared.note.Note.TheVariants as note
 use Rattle.boot_words.specs.Tables.{KnownTable}
+use Rattle.mem_machine.specs.declared.frame_state.FrameState.TheVariants.{Head}
+use Rattle.mem_machine.specs.FrameStates.{frame_state_at}
 use Rattle.mem_machine.specs.Machines.{IsConsistent, KnownMachine, home_of, with_note}
 use Rattle.mem_reclaim.specs.declared.sets.Killed.{Killed}
 use Rattle.mem_reclaim.specs.Killing.{IsKilledBy, kept_units}
 use Rattle.mem_reclaim.specs.Moves.{FreesPages, all_missed_in, missed_in, returned_in}
 use Rattle.mem_reclaim.specs.declared.passes.Pass.{Pass}
-use Rattle.mem_reclaim.specs.Passes.{TakesTurn, turn_order}
+use Rattle.mem_reclaim.specs.Passes.{TakesTurn, spared_by, turn_order, turn_want}
 use Rattle.mem_reclaim.specs.Rounds.{ReclaimsRound, pages_missing, pages_wanted}
 use Rattle.mem_reclaim.specs.Sets.{IsKilledRoot, kill_set}
 use Rattle.mem_reclaim.specs.Staying.{MissedAll}
@@ -67,7 +70,7 @@ MissedUnitsWereTried =
     → FreesPages table before freed steps after → MissedAll group before after
     → (frame : ℕ) (home : Home) → in_subtree after.ledger.groups group home.owner ≡ true
     → home_of after.links frame ≡ Some home → (link_at after.links frame).is_dirty ≡ false
-    → (1 ≤ missed_in frame steps) ⊎ IsKeptByMin after.ledger group home.owner
+    → (1 ≤ missed_in frame steps) ⊎ IsKeptByMin before.ledger after.ledger group home.owner
 
 -- a group has no turn if its usage is no more than what memory.min protects: no pass takes a page of it, and nothing
 -- changes but what is noted
@@ -77,6 +80,30 @@ ProtectedGroupsHaveNoTurn =
     → 1 ≤ effective min_key done.before.ledger target group
     → current_of done.before.ledger group ≤ effective min_key done.before.ledger target group
     → FreesNothing (progress done.freed (record done.before { notes = done.after.notes }) done.steps done.after)
+
+-- no unit has more pages than this
+abbrev pub UnitsHaveAtMost : ℕ → KnownMachine → Type 0
+UnitsHaveAtMost most machine =
+    (frame : ℕ) (unit : ChargedUnit) → frame_state_at machine.frame_states frame ≡ Head unit → 2 ^ unit.order ≤ most
+
+-- how many pages the turn of a group wants that begins with this machine
+abbrev pub wanted_of : Pass → (target group want : ℕ) → KnownMachine → ℕ
+wanted_of pass target group want machine =
+    turn_want want (current_of machine.ledger group)
+    (spared_by pass (effective min_key machine.ledger target group) (effective low_key machine.ledger target group))
+
+-- a turn frees fewer pages than those that it wants and the largest unit together
+abbrev pub TurnsFreeFewMore : Type 0
+TurnsFreeFewMore =
+    (pass : Pass) (target group want most : ℕ) (done : Progress) → 1 ≤ most → UnitsHaveAtMost most done.before
+    → TakesTurn pass target group want done → done.freed < wanted_of pass target group want done.before + most
+
+-- if all units are single frames, a turn leaves as many pages as memory.min protects
+abbrev pub TurnsOfFramesLeaveMin : Type 0
+TurnsOfFramesLeaveMin =
+    (pass : Pass) (target group want : ℕ) (done : Progress) → UnitsHaveAtMost 1 done.before
+    → TakesTurn pass target group want done → 1 ≤ effective min_key done.before.ledger target group
+    → done.freed ≤ current_of done.before.ledger group - effective min_key done.before.ledger target group
 
 -- the last note is of a round of this number: it reports the units that the steps return, the freezes among them that
 -- missed, the pages, and the usage

@@ -65,7 +65,8 @@ MissedOfGroup group before after =
 -- a freeze of each clean unit that the group still keeps missed in between, or memory.min keeps its pages from a
 -- reclaim for `limited`
 abbrev pub MissedOrKept : (limited group : ℕ) → KnownMachine → KnownMachine → Type 0
-MissedOrKept limited group before after = MissedOfGroup group before after ⊎ IsKeptByMin after.ledger limited group
+MissedOrKept limited group before after =
+    MissedOfGroup group before after ⊎ IsKeptByMin before.ledger after.ledger limited group
 
 -- this holds of each group of the subtree
 abbrev pub MissedAll : ℕ → KnownMachine → KnownMachine → Type 0

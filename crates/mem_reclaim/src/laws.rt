@@ -4,7 +4,8 @@
 ghost use Rattle.mem_reclaim.specs.Laws.{BatchesOfOneWantWhatIsMissing, FlaggedGroupsDieWhole, LoneKillsAreNotedAsMade};
 ghost use Rattle.mem_reclaim.specs.Laws.{MissedUnitsWereTried};
 ghost use Rattle.mem_reclaim.specs.Laws.{OnlyTheLivingDie, ProtectedGroupsHaveNoTurn, RoundsAreNotedAsMade};
-ghost use Rattle.mem_reclaim.specs.Laws.{TheVictimIsOne, TurnsAscendUnlessFair, TurnsLeaveOutNoGroup, VictimsDie};
+ghost use Rattle.mem_reclaim.specs.Laws.{TheVictimIsOne, TurnsAscendUnlessFair, TurnsFreeFewMore, TurnsLeaveOutNoGroup};
+ghost use Rattle.mem_reclaim.specs.Laws.{TurnsOfFramesLeaveMin, VictimsDie};
 
 /// If a group in the subtree of the limited group has memory.oom.group on, it is killed as a whole, or no group of its
 /// subtree is killed.
@@ -30,6 +31,16 @@ pub fn the_victim_is_one()
 /// No pass takes a page of a group whose usage, when its turn begins, is no more than memory.min protects.
 pub fn protected_groups_have_no_turn()
     ensures { ProtectedGroupsHaveNoTurn }
+{}
+
+/// A turn frees fewer pages than those that it wants and the largest unit together.
+pub fn turns_free_few_more()
+    ensures { TurnsFreeFewMore }
+{}
+
+/// A turn over single frames leaves what memory.min protects when it begins.
+pub fn turns_of_frames_leave_min()
+    ensures { TurnsOfFramesLeaveMin }
 {}
 
 /// A unit counts as missed only if a freeze of it missed.

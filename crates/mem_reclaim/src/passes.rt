@@ -1,6 +1,6 @@
 //! The passes over the groups of a subtree, by ascending number or in turn.
 
-ghost use Rattle.std.specs.Prelude.{◌≡◌, ◌<◌, ◌+◌, ◌^◌, ◌&&◌, true, false, nat_lt, IsTrue};
+ghost use Rattle.std.specs.Prelude.{◌≡◌, ◌<◌, ◌+◌, ◌&&◌, true, false, nat_lt, IsTrue};
 ghost use Rattle.group_tree.specs.Groups.{has_group, in_subtree};
 ghost use Rattle.group_charge.specs.Charges.{current_of};
 ghost use Rattle.group_charge.specs.declared.note.Note.TheVariants.{Spared};
@@ -66,7 +66,7 @@ fn age_and_scan<N: BootName>(
     ensures passes { FreesBySteps N.table result machine.old machine.new (PassesGroup true group want) }
     ensures keeps { Keeps N.table machine.old machine.new }
     ensures usage { UsageFalls group result machine.old machine.new }
-    ensures few { result < want + 2 ^ 32 }
+    ensures few { result < want + 1024 }
 {
     machine.age(group);
     scan(machine, tables, group, LruList::Inactive, want, true)
@@ -85,7 +85,7 @@ fn scan_both<N: BootName>(
     ensures passes { FreesBySteps N.table result machine.old machine.new (PassesGroup false group want) }
     ensures keeps { Keeps N.table machine.old machine.new }
     ensures usage { UsageFalls group result machine.old machine.new }
-    ensures few { result < want + 2 ^ 32 }
+    ensures few { result < want + 1024 }
     ensures leaves { OnlyLeave machine.old machine.new }
     ensures missed { result < want → MissedOfGroup group machine.old machine.new }
 {
@@ -129,7 +129,7 @@ fn scan_and_note<N: BootName>(
         (ReclaimsGroup third_pass protection.min protection.low usage group want) }
     ensures keeps { Keeps N.table machine.old machine.new }
     ensures usage { UsageFalls group result machine.old machine.new }
-    ensures few { result < want + 2 ^ 32 }
+    ensures few { result < want + 1024 }
     ensures leaves { OnlyLeave machine.old machine.new }
     ensures missed { result < want → MissedOfGroup group machine.old machine.new }
 {
@@ -164,7 +164,7 @@ fn reclaim_group<N: BootName>(
         (ReclaimsGroup pass protection.min protection.low usage group want) }
     ensures keeps { Keeps N.table machine.old machine.new }
     ensures usage { UsageFalls group result machine.old machine.new }
-    ensures few { result < want + 2 ^ 32 }
+    ensures few { result < want + 1024 }
     ensures leaves { is_first pass ≡ false → OnlyLeave machine.old machine.new }
     ensures missed { is_first pass ≡ false → result < want → MissedOfGroup group machine.old machine.new }
 {
@@ -223,7 +223,7 @@ fn take_turn<N: BootName>(
     ensures turn { FreesBySteps N.table result machine.old machine.new (TakesTurn pass target group want) }
     ensures keeps { Keeps N.table machine.old machine.new }
     ensures usage { UsageFalls group result machine.old machine.new }
-    ensures few { result < want + 2 ^ 32 }
+    ensures few { result < want + 1024 }
     ensures leaves { is_first pass ≡ false → OnlyLeave machine.old machine.new }
     ensures tried { is_last pass machine.old.ledger.settings ≡ true → result < want
         → MissedOrKept target group machine.old machine.new }
@@ -258,7 +258,7 @@ fn pass_over<N: BootName>(
         (WhileWanted (TakesTurn pass target) (members_of groups) want) }
     ensures keeps { Keeps N.table machine.old machine.new }
     ensures usage { current_of machine.new.ledger target + result ≡ current_of machine.old.ledger target }
-    ensures few { result < want + 2 ^ 32 }
+    ensures few { result < want + 1024 }
     ensures leaves { is_first pass ≡ false → OnlyLeave machine.old machine.new }
     ensures tried { is_last pass machine.old.ledger.settings ≡ true → result < want
         → AreMissedOrKept target groups machine.old machine.new }
@@ -294,7 +294,7 @@ pub(crate) fn reclaim_pass<N: BootName>(
     ensures passes { FreesBySteps N.table result machine.old machine.new (ReclaimsPass target pass want) }
     ensures keeps { Keeps N.table machine.old machine.new }
     ensures usage { current_of machine.new.ledger target + result ≡ current_of machine.old.ledger target }
-    ensures few { result < want + 2 ^ 32 }
+    ensures few { result < want + 1024 }
     ensures tried { is_last pass machine.old.ledger.settings ≡ true → result < want
         → MissedAll target machine.old machine.new }
 {

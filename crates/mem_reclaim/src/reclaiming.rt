@@ -1,6 +1,6 @@
 //! Reclaiming pages from a subtree.
 
-ghost use Rattle.std.specs.Prelude.{◌≡◌, ◌<◌, ◌+◌, ◌^◌, IsTrue, nat_lt};
+ghost use Rattle.std.specs.Prelude.{◌≡◌, ◌<◌, ◌+◌, IsTrue, nat_lt};
 ghost use Rattle.group_tree.specs.Groups.{has_group};
 ghost use Rattle.group_charge.specs.Charges.{current_of};
 ghost use Rattle.boot_words.specs.Pasts.{IsHeld};
@@ -17,7 +17,7 @@ use mem_machine::{Machine, subtree};
 /// The result of a reclaim.
 #[derive(Clone, Copy, Debug, PartialEq, Eq)]
 pub struct Reclaimed {
-    /// How many pages were freed. A block may have more than were still wanted.
+    /// How many pages were freed: fewer than those wanted and 1,024 together, as many as the largest block has.
     pub pages: u64,
     /// Whether the last pass ended without enough pages: each clean unit that the subtree still keeps was tried and
     /// missed, or memory.min protects it.
@@ -40,6 +40,7 @@ fn make_passes<N: BootName>(
     ensures reclaims { FreesBySteps N.table result machine.old machine.new (Reclaims group want) }
     ensures missed { result < want → MissedAll group machine.old machine.new }
     ensures usage { current_of machine.new.ledger group + result ≡ current_of machine.old.ledger group }
+    ensures few { result < want + 1024 }
     ensures keeps { Keeps N.table machine.old machine.new }
 {
     machine.prove_usage(group); // At most this many pages are freed.
@@ -61,8 +62,8 @@ fn make_passes<N: BootName>(
 /// memory.min doesn't protect was tried. A unit is freed if only the zone has a reference on it; a dirty unit never is.
 /// The first pass ages each group's lists, tries its inactive units and gives marked ones a second chance. The second
 /// pass tries all clean units. If some group of the tree has memory.low or memory.min, these passes spare what one of
-/// them protects, and a third spares only what memory.min protects. Each pass goes over the groups by ascending number, and over a list
-/// from the oldest unit to the newest. With `want` 0 nothing is done.
+/// them protects, and a third spares only what memory.min protects. Each pass goes over the groups by ascending number,
+/// and over a list from the oldest unit to the newest. With `want` 0 nothing is done.
 pub fn reclaim<N: BootName>(
     machine: &mut Machine<N>,
     tables: &Tables<N>,
@@ -75,6 +76,7 @@ pub fn reclaim<N: BootName>(
     ensures tried_all { result.tried_all ≡ nat_lt result.pages want }
     ensures missed { IsTrue result.tried_all → MissedAll group machine.old machine.new }
     ensures usage { current_of machine.new.ledger group + result.pages ≡ current_of machine.old.ledger group }
+    ensures few { result.pages < want + 1024 }
     ensures keeps { Keeps N.table machine.old machine.new }
 {
     if want == 0 {

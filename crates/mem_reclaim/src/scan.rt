@@ -1,6 +1,6 @@
 //! Scanning the units of one list, one after the other.
 
-ghost use Rattle.std.specs.Prelude.{◌≡◌, ◌<◌, ◌+◌, ◌^◌, false, IsTrue};
+ghost use Rattle.std.specs.Prelude.{◌≡◌, ◌<◌, ◌+◌, false, IsTrue};
 ghost use Rattle.group_tree.specs.Groups.{has_group};
 ghost use Rattle.lru_lists.specs.declared.record.LruList.TheVariants.{Inactive};
 ghost use Rattle.boot_words.specs.Pasts.{IsHeld};
@@ -30,7 +30,7 @@ pub(crate) fn scan<N: BootName>(
     ensures scans { FreesBySteps N.table result machine.old machine.new (ScansList spares_marked group list want) }
     ensures keeps { Keeps N.table machine.old machine.new }
     ensures usage { UsageFalls group result machine.old machine.new }
-    ensures few { result < want + 2 ^ 32 }
+    ensures few { result < want + 1024 }
     ensures leaves { spares_marked ≡ false → OnlyLeave machine.old machine.new }
     ensures missed { spares_marked ≡ false → result < want → MissedOnList group list machine.old machine.new }
 {

@@ -1,6 +1,6 @@
 //! What is done with one unit of a list.
 
-ghost use Rattle.std.specs.Prelude.{◌≡◌, ◌<◌, ◌&&◌, Some, IsTrue};
+ghost use Rattle.std.specs.Prelude.{◌≡◌, ◌<◌, ◌≤◌, ◌&&◌, Some, IsTrue};
 ghost use Rattle.lru_lists.specs.declared.record.LruList.TheVariants.{Inactive};
 ghost use Rattle.lru_lists.specs.Lists.{entry_of};
 ghost use Rattle.mem_machine.specs.Machines.{home_of};
@@ -41,6 +41,7 @@ pub(crate) fn try_reclaim<N: BootName>(
     ensures attempts { FreesBySteps N.table result machine.old machine.new (TriesReclaim spares_marked group unit 1) }
     ensures keeps { Keeps N.table machine.old machine.new }
     ensures usage { UsageFalls group result machine.old machine.new }
+    ensures few { result ≤ 1024 }
 {
     if unit.is_dirty {
         return 0;

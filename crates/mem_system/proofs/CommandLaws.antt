@@ -7,7 +7,6 @@ use Rattle.group_tree.specs.declared.fault.Fault.TheVariants as fault
 use Rattle.zone_blocks.specs.declared.config.Config.{Config}
 use Rattle.zone_blocks.specs.Config.{IsValidConfig}
 use Rattle.control_files.specs.Files.{name_of_file}
-use Rattle.boot_words.specs.{words_in, zone_of_boot}
 use Rattle.cpu_part.specs.Cpus.{KnownCpuLists}
 use Rattle.step_rules.specs.{one_if, Run}
 use Rattle.mem_machine.specs.{VisitState, visit_state, home_of, settle_steps, open_steps, shut_steps, Transition, transition}
@@ -98,7 +97,6 @@ one_at_most false = omega arith
 
 pub ends_leave_empty_words : EndsLeaveEmptyWords
 ends_leave_empty_words t emptied audit closes = record {
-  words = words_in (zone_of_boot t) closes.words;
   each = λ cpu some within. (closes.no_page cpu some within).words;
   references = λ f inside.
       let is = closes.last_words f inside in

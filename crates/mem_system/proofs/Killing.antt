@@ -9,6 +9,7 @@ use Rattle.group_tree.specs.declared.fault.Fault.TheVariants as fault
 use Rattle.group_tree.specs.{in_subtree, limit_of, number_at, with_limit, fits_limit}
 use Rattle.group_tree.proofs.CallerLemmas.{limit_of-limited}
 use Rattle.group_charge.specs.Charges.{current_of}
+use Rattle.group_charge.proofs.UsageLemmas.{usage-limited}
 use Rattle.zone_blocks.specs.declared.config.Config.{Config}
 use Rattle.control_files.specs.declared.file.File.{File}
 use Rattle.control_files.specs.declared.file.File.TheVariants.{Max, High, Low, Min, OomGroup, Reclaim}
@@ -92,6 +93,7 @@ passes_told t g m n steps p = record {
   owners = p.owners;
   dirt = p.dirt;
   settings = p.settings;
+  usage = p.usage;
 }
 
 module _ (t : KnownTable) (MayAsk : List Group → ℕ → ℕ → Type 0) (s : KnownMachine) (held : IsHeld t s.run.past) where
@@ -111,7 +113,7 @@ module _ (t : KnownTable) (MayAsk : List Group → ℕ → ℕ → Type 0) (s : 
       let first = drain_stocks_steps low.drains in
       let told = with_limit_noted m g 0 in
       let same = drains_leave t (of_subtree g) t.cpus told y low.drains low.drains_all in
-      let drains = passes_told t g m y first (passes_same t told y first low.drain_runs same.links same.settings) in
+      let drains = passes_told t g m y first (passes_same t told y first low.drain_runs same.links same.settings same.usage) in
       let after_drains = passes_both t s m y made first since drains in
       let rounds = keeps_pass t y x low.reclaims.steps low.reclaims.moves.runs low.keeps in
       let lowering = subst (λ (k : Run). Passes t m k x) (sym low.steps_are) (passes_both t m y x first low.reclaims.steps drains rounds) in
@@ -147,7 +149,7 @@ module _ (t : KnownTable) (MayAsk : List Group → ℕ → ℕ → Type 0) (s : 
   sets_rash path g of steps n found asked h =
       let x = with_run (with_limit_of s g of) h.seen in
       let first = set_max_steps g of in
-      let set = passes_same t s x first h.sets refl refl in
+      let set = passes_same t s x first h.sets refl refl (λ k. let e = usage-limited s.ledger.groups s.ledger.accounts g k of in omega (arith, e)) in
       subst (λ (k : Run). RashFree t MayAsk s [] k) (sym h.steps_are) (rash_both t MayAsk s held [] first h.lowering
       (rash_quiet t MayAsk s held [] first refl)
       (keeps_rash g of first x h.lowering n (limit_of-limited s.ledger.groups g of (found_there s.ledger.groups path g found)) asked set h.keeps))

@@ -16,6 +16,7 @@ use Rattle.mem_system.specs.declared.command.LockedCommand.TheVariants.{Write}
 use Rattle.mem_system.specs.declared.command.ReplyWithText.{ReplyWithText}
 use Rattle.mem_system.specs.declared.command.ReplyWithText.TheVariants.{Refused}
 use Rattle.mem_system.specs.Commands.{ListStaysWithin}
+use Rattle.boot_words.specs.{words_in, zone_of_boot}
 use Rattle.boot_words.specs.Words.{Words}
 use Rattle.mem_system.specs.Ends.{Closes, HasEmptyWords, KnownEmptiedBoot}
 use Rattle.mem_system.specs.Releases.{ReleasesFrame}
@@ -41,14 +42,14 @@ ReleasesCutLists =
     (sizes : Config) (frame : ℕ) (reply : ReplyWithText) (call : Transition VisitState) → IsValidConfig sizes
     → ReleasesFrame sizes frame reply call → ListStaysWithin sizes call.before.cpu call.after.cpu
 
--- the last words: no CPU's words hold a page, and no frame's word counts more than the zone's reference
-pub record LeavesEmptyWords (table : KnownTable) : Type 0 where
-  pub words : Words
+-- these last words of a boot are empty: no CPU's words hold a page, and no frame's word counts more than the zone's
+-- reference
+pub record LeavesEmptyWords (table : KnownTable) (words : Words) : Type 0 where
   pub each : (cpu : ℕ) → 1 ≤ cpu → cpu ≤ table.cpus → HasEmptyWords words.stocks cpu
   pub references : (frame : ℕ) → frame < table.frames → slice_index words.frames frame ≤ 1
 
--- when the table is closed, no page and no CPU's reference is left in any word
+-- the words of the run that a closed table ends hold no page, and no CPU's reference
 abbrev pub EndsLeaveEmptyWords : Type 0
 EndsLeaveEmptyWords =
     (table : KnownTable) (emptied : KnownEmptiedBoot) (audit : Audit)
-    → Closes table emptied audit → LeavesEmptyWords table
+    → (closes : Closes table emptied audit) → LeavesEmptyWords table (words_in (zone_of_boot table) closes.words)

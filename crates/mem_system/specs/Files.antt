@@ -4,7 +4,7 @@ use Rattle.group_tree.specs.declared.group.Group.{Group}
 use Rattle.group_tree.specs.Groups.{number_at}
 use Rattle.group_tree.specs.declared.fault.Fault.{Fault}
 use Rattle.group_tree.specs.declared.fault.Fault.TheVariants.{NoGroup, NoFile, ReadOnly, BadLimit, BadNumber, Again}
-use Rattle.group_charge.specs.Charges.{Ledger, current_of, settings_of, with_group_limit, with_oom_flag, with_settings}
+use Rattle.group_charge.specs.Charges.{current_of, settings_of, with_group_limit, with_oom_flag, with_settings}
 use Rattle.control_files.specs.declared.file.File.{File}
 use Rattle.control_files.specs.declared.file.File.TheVariants.{Max, High, Low, Min, OomGroup, Reclaim, Stat}
 use Rattle.control_files.specs.{name_of_file, file_text, is_writable, IsFlagText, IsNoFlagText, ReadsAmount, ReadsAs, IsTooGreat, IsNoAmountText}

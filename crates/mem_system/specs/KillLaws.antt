@@ -1,6 +1,7 @@
 -- What holds of each kill of a command beside that it comes last: all groups of its set die with it, and the limit has
 -- no room for what the command asked for.
-use Rattle.std.specs.Prelude.{◌≡◌, ℕ, ◌+◌, ◌<◌, ◌≤◌, ◌^◌, true, Some, List, ◌∷◌, ◌++◌}
+use Rattle.std.specs.Prelude.{◌≡◌, ℕ, ◌+◌, ◌<◌, ◌≤◌, ◌^◌, true, false, Some, List, ◌∷◌, ◌++◌}
+use Rattle.std.specs.Borrow.{Bor}
 use Rattle.group_tree.specs.declared.group.Group.{Group}
 use Rattle.group_tree.specs.Groups.{in_subtree, limit_of, number_at}
 use Rattle.group_charge.specs.Charges.{Ledger, current_of}
@@ -9,13 +10,16 @@ use Rattle.step_rules.specs.declared.step.Answer.{Answer}
 use Rattle.step_rules.specs.declared.step.Step.{Step}
 use Rattle.step_rules.specs.After.{Run}
 use Rattle.boot_words.specs.Tables.{KnownTable}
-use Rattle.mem_machine.specs.Machines.{KnownMachine}
-use Rattle.mem_alloc.specs.{DiesWithItsSet, ComesLast}
+use Rattle.control_files.specs.declared.file.File.TheVariants.{Max}
+use Rattle.mem_machine.specs.{KnownMachine, transition}
+use Rattle.mem_alloc.specs.{DiesWithItsSet, ComesLast, has_room_at}
+use Rattle.mem_alloc.specs.Laws.{TriedAll}
 use Rattle.mem_system.specs.declared.command.LockedCommand.{LockedCommand}
 use Rattle.mem_system.specs.declared.command.LockedCommand.TheVariants.{Alloc, Write}
 use Rattle.mem_system.specs.declared.command.ReplyWithText.{ReplyWithText}
+use Rattle.mem_system.specs.declared.command.ReplyWithText.TheVariants.{Done}
 use Rattle.mem_system.specs.Asks.{MayAskFor}
-use Rattle.mem_system.specs.Files.{IsLimitFor}
+use Rattle.mem_system.specs.Files.{IsFileOf, IsLimitFor}
 use Rattle.mem_system.specs.Visits.{Transition, LockedState, Serves}
 
 -- The kills of a command are whole sets. Right after everything else was tried, all groups that die with a victim are
@@ -75,3 +79,13 @@ BootsMayKillNobody =
     (served : Serves cmd reply call) (before rest : Run)
     (made : Step × Answer) (group : ℕ) → call.table.choices.is_no_kill ≡ true → served.inner ≡ before ++ made ∷ rest
     → ¬ (made.0.action ≡ Kill group)
+
+-- in a boot that chose that no group is killed, a Write of memory.max that leaves the group's usage above its limit tried
+-- everything else
+abbrev pub WritesOverALimitTriedAll : Type 0
+WritesOverALimitTriedAll =
+    (path file value : Bor (List ℕ)) (call : Transition LockedState)
+    (served : Serves (Write path file value) Done call) (group : ℕ) → call.table.choices.is_no_kill ≡ true
+    → IsFileOf served.settled.machine.ledger.groups path.now file.now group Max
+    → has_room_at served.done.ledger group 0 ≡ false
+    → TriedAll group 0 (transition call.table served.settled.machine served.inner served.done)

@@ -4,6 +4,7 @@ ghost use Rattle.mem_system.specs.CommandLaws.{EndsLeaveEmptyWords, OnlyCommands
 ghost use Rattle.mem_system.specs.CommandLaws.{ReleasesCutLists};
 ghost use Rattle.mem_system.specs.Counted.{VisitsFindCounts};
 ghost use Rattle.mem_system.specs.KillLaws.{BootsMayKillNobody, CommandsKillOverLimits, CommandsKillWholeSets};
+ghost use Rattle.mem_system.specs.KillLaws.{WritesOverALimitTriedAll};
 ghost use Rattle.mem_system.specs.Laws.{CommandsKillLast, CommandsTryAllWithoutMin};
 ghost use Rattle.mem_system.specs.Lost.{ConsistentMachinesLoseNoUnit};
 
@@ -32,6 +33,12 @@ pub fn commands_kill_over_limits()
 /// If the boot chose that no group is killed, no command kills.
 pub fn boots_may_kill_nobody()
     ensures { BootsMayKillNobody }
+{}
+
+/// If the boot chose that no group is killed, a Write that leaves the usage above the limit that it wrote tried
+/// everything else: all stocks of the subtree are drained, and each clean unit was tried that memory.min doesn't keep.
+pub fn writes_over_a_limit_tried_all()
+    ensures { WritesOverALimitTriedAll }
 {}
 
 /// Of all steps of a visit, only those of the command itself kill a group.

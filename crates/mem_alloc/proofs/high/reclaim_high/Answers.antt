@@ -1,5 +1,4 @@
-use Rattle.std.proofs.Common.{◌≡◌, List, true, ap, ◌∙◌, subst}
-use Rattle.group_tree.specs.declared.group.Group.{Group}
+use Rattle.std.proofs.Common.{subst}
 use Rattle.group_tree.specs.Groups.{AreGroups}
 use Rattle.group_charge.specs.Charges.{Ledger}
 use Rattle.mem_reclaim.proofs.Keeping.{keeps_none}

@@ -63,13 +63,13 @@ try_reclaim-requires-clause-held g c =
 pub loop-met-preserved : goal.loop-met-preserved
 loop-met-preserved g c =
     let fits : c.args.group < 64 = search rules in
-    let small = c.try_reclaim.type_inv in
+    let small = c.try_reclaim.ensures.few in
     let e = c.from-freed.ensures in
     rw e
     (scan_more g.N.BootName.table c.args.spares_marked c.args.group fits c.args.list c.args.want c.args.machine.now
     c.loop-met._met c.loop-met.freed c.loop-met.next c.loop-met.machine c.prove_consistent-in-loop-met.ensures c.loop-met.invariant c.list_len-units.result
     c.list_len-units.ensures c.loop-met-test.true c.in-Some.unit c.in-Some.is c.try_reclaim.result c.try_reclaim.new.machine c.requires.inactive c.if-want-freed.false
-    (omega (arith, small)) c.try_reclaim.ensures.attempts c.try_reclaim.ensures.keeps c.try_reclaim.ensures.usage c.newer-next.result c.in-Some-frame.frame c.in-Some-frame.ensures.0
+    small c.try_reclaim.ensures.attempts c.try_reclaim.ensures.keeps c.try_reclaim.ensures.usage c.newer-next.result c.in-Some-frame.frame c.in-Some-frame.ensures.0
     c.newer-next.ensures)
 
 pub returns : goal.returns
@@ -90,5 +90,5 @@ overflow_add-freed g c =
     let usage = c.loop-met.invariant.usage c.args.group (in_subtree-refl c.args.machine.now.ledger.groups c.args.group c.requires.there) in
     let fits = c.prove_usage.ensures in
     let more = c.from-freed.ensures in
-    let small = c.try_reclaim.type_inv in
+    let small = c.try_reclaim.ensures.few in
     omega (arith, usage, fits, more, small)

@@ -2,6 +2,7 @@ use Rattle.std.proofs.Common.{ap, sym, ◌∙◌}
 use Rattle.lru_lists.specs.declared.record.Entry.{Entry}
 use Rattle.mem_reclaim.proofs.Meeting.{meets_dirty, meets_spared, meets_tried}
 use Rattle.mem_reclaim.proofs.Keeping.{keeps_try}
+use Rattle.mem_reclaim.proofs.FewMore.{evicted_few, units_few}
 use Rattle.mem_reclaim.proofs.try_reclaim.try_reclaim.Goals as goal
 
 pub returns-clause-attempts : goal.returns-clause-attempts
@@ -23,3 +24,8 @@ returns-then-is_spared-clause-attempts g c =
 pub returns-then-unit-clause-attempts : goal.returns-then-unit-clause-attempts
 returns-then-unit-clause-attempts g c =
     meets_dirty g.N.BootName.table c.args.spares_marked c.args.group c.args.unit c.args.machine.now c.if-unit.true
+
+pub returns-clause-few : goal.returns-clause-few
+returns-clause-few g c =
+    evicted_few c.args.frame c.evict.result c.args.machine.now c.evict.new.self (units_few g.N.BootName.table c.args.machine.now c.prove_consistent.ensures)
+    c.evict.ensures.evicts c.unwrap_or.result c.unwrap_or.ensures
