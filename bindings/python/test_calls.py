@@ -1,4 +1,5 @@
 """Each call of the package, what it returns and how it is refused."""
+import gc
 import os
 import re
 import threading
@@ -14,6 +15,10 @@ class Calls(unittest.TestCase):
     def setUp(self):
         self.zone = Zone(frames=64, cpus=2)
         self.cpu = self.zone.take(1)
+
+    def tearDown(self):
+        with self.zone, self.cpu:
+            pass  # so that both are returned
 
     def refuses(self, error, call, *words):
         with self.assertRaises(error) as caught:
@@ -94,6 +99,34 @@ class Calls(unittest.TestCase):
         self.zone.end()
         self.refuses(tempolemon.NotLive, self.zone.end)
         self.refuses(tempolemon.NotLive, self.zone.take, 1)
+
+    def test_an_exception_of_a_block_goes_through(self):
+        pin = self.cpu.get(self.cpu.alloc_dirty(self.cpu.mkdir("/a")))
+        with self.assertRaises(KeyError), self.cpu._lock, pin:
+            raise KeyError
+        with self.assertRaises(KeyError), self.zone:
+            raise KeyError
+        with self.assertRaises(tempolemon.CpusOut), self.zone:
+            pass
+        pin.put()
+        self.cpu.settle()
+
+    def test_what_is_dropped_is_returned_with_a_warning(self):
+        with self.assertWarnsRegex(ResourceWarning, "CPU 2 wasn't returned"):
+            self.zone.take(2)
+            gc.collect()
+        with self.assertWarnsRegex(ResourceWarning, "a zone wasn't ended"):
+            Zone(frames=64, cpus=1)
+            gc.collect()
+        self.zone.take(2).give_back()
+
+    def test_an_argument_of_another_type_is_named(self):
+        cpu = self.cpu
+        for name, call, *words in (
+                ("order", cpu.alloc, 1, 1.0), ("group", cpu.usage, "1"), ("frame", cpu.get, None), ("path", cpu.mkdir, b"/a"),
+                ("file", cpu.read, "/a", 1), ("value", cpu.write, "/a", "memory.max", 4096), ("pages", cpu.reclaim, 0, None),
+                ("number", self.zone.take, "1"), ("frames", Zone, "64", 2), ("no_kill", lambda: Zone(64, 2, no_kill=1))):
+            self.assertRegex(str(self.refuses(TypeError, call, *words)), rf"\A{name} must be \w+, not \w+\Z")
 
     def test_a_cpu_that_another_thread_is_inside_of_refuses(self):
         with self.cpu._lock:

@@ -9,6 +9,13 @@ macro_rules! errors {
         /// Why a call was refused.
         ///
         /// docs/MANUAL.md says what causes the refusals 1 to 22, and what helps.
+        ///
+        /// ```
+        /// # use tempolemon::{Error, Sizes, Zone};
+        /// let refused = Zone::boot(&Sizes::default()).unwrap_err();
+        /// assert_eq!((refused, refused.status()), (Error::BadConfig, 14));
+        /// assert_eq!(refused.to_string(), "refused 14: a size is out of its range");
+        /// ```
         #[derive(Clone, Copy, Debug, PartialEq, Eq)]
         #[non_exhaustive]
         pub enum Error {
@@ -37,6 +44,7 @@ macro_rules! errors {
 
             /// The status that the C call returns: the number of the refusal, or one above 100. It is 0 of `Zero`,
             /// `Raced` and `Full`, which are kinds there.
+            #[must_use]
             pub fn status(&self) -> u8 {
                 match self {
                     $(Error::$name $({ $field: _ })? => $status,)*

@@ -1,5 +1,5 @@
 #![doc = include_str!("../README.md")]
-#![warn(missing_docs)]
+#![warn(missing_docs, missing_debug_implementations)]
 
 mod error;
 mod raw;
@@ -9,10 +9,11 @@ use raw::{kind, Handle, TypedResult};
 use std::borrow::Cow;
 use std::cell::UnsafeCell;
 use std::ffi::CStr;
+use std::fmt;
 use std::hint::spin_loop;
 use std::marker::PhantomData;
 use std::mem::ManuallyDrop;
-use std::sync::{LazyLock, Mutex, PoisonError};
+use std::sync::{Arc, LazyLock, Mutex, PoisonError};
 use std::thread::yield_now;
 
 /// What `./memcg lib` noted in the library of its proof: a line with the kit and its logic, a line with the hash of the
@@ -67,11 +68,16 @@ pub struct Report {
 }
 
 /// The number of a frame, from 0. Of a pool at `base` it is the page at `base + frame.offset()`.
+///
+/// ```
+/// assert_eq!(tempolemon::Frame(3).offset(), 3 * 4096);
+/// ```
 #[derive(Clone, Copy, Debug, PartialEq, Eq, PartialOrd, Ord, Hash)]
 pub struct Frame(pub u32);
 
 impl Frame {
     /// How many bytes lie before the frame's page.
+    #[must_use]
     pub fn offset(self) -> usize {
         self.0 as usize * 4096
     }
@@ -114,7 +120,15 @@ pub enum Owner {
 
 /// A zone of page frames, which all threads share. Each takes a [`Cpu`] of it.
 ///
-/// It ends when it is dropped, or by [`Zone::end`], which reports. Neither compiles while a CPU is out:
+/// ```
+/// # use tempolemon::{Error, Sizes, Zone};
+/// let zone = Zone::boot(&Sizes { frames: 64, cpus: 2, batch: 4, high: 8, stock: 4, ..Sizes::default() })?;
+/// zone.take(1)?.mkdir("/a")?;
+/// assert_eq!(zone.end()?.free, 64);
+/// # Ok::<(), Error>(())
+/// ```
+///
+/// It ends when it is dropped, or by [`Zone::end`], which reports. Neither compiles while a CPU that borrows it is out:
 ///
 /// ```compile_fail,E0505
 /// # use tempolemon::{Sizes, Zone};
@@ -125,6 +139,7 @@ pub enum Owner {
 /// ```
 ///
 /// A program that leaks a CPU has none of this: the end is then refused with [`Error::CpusOut`], and the memory stays.
+#[must_use = "a zone ends when it is dropped"]
 pub struct Zone(Mutex<Handle>);
 
 impl Zone {
@@ -141,11 +156,45 @@ impl Zone {
     ///
     /// Errors: `BadCpu`, `CpuOut` if it is taken, `NoMemory`.
     pub fn take(&self, number: u32) -> Result<Cpu<'_>, Error> {
+        self.take_for(number, None)
+    }
+
+    /// Takes the CPU of this number, as [`Zone::take`] does, with a share of the zone in place of a borrow: for threads that
+    /// aren't scoped, and pools.
+    ///
+    /// ```
+    /// # use std::{sync::{Arc, Mutex}, thread};
+    /// # use tempolemon::{Error, Sizes, Zone};
+    /// let zone = Arc::new(Zone::boot(&Sizes { frames: 64, cpus: 2, batch: 4, high: 8, stock: 4, ..Sizes::default() })?);
+    /// let pool = Arc::new(Mutex::new(vec![zone.take_owned(1)?, zone.take_owned(2)?]));
+    /// let workers = [1, 2].map(|_| {
+    ///     let pool = pool.clone();
+    ///     thread::spawn(move || {
+    ///         let cpu = pool.lock().unwrap().pop().unwrap();
+    ///         let settled = cpu.settle();
+    ///         pool.lock().unwrap().push(cpu);
+    ///         settled
+    ///     })
+    /// });
+    /// workers.into_iter().try_for_each(|it| it.join().unwrap())?;
+    /// drop(pool); // the CPUs are returned
+    /// let report = Arc::into_inner(zone).expect("no CPU is out").end()?;
+    /// # assert_eq!(report.free, 64);
+    /// # Ok::<(), Error>(())
+    /// ```
+    ///
+    /// Errors: those of [`Zone::take`].
+    pub fn take_owned(self: &Arc<Self>, number: u32) -> Result<Cpu<'static>, Error> {
+        self.take_for(number, Some(self.clone()))
+    }
+
+    /// Takes a CPU. That the zone lives as long is for the caller: by a borrow, or by the owner.
+    fn take_for<'zone>(&self, number: u32, owner: Option<Arc<Zone>>) -> Result<Cpu<'zone>, Error> {
         // The header asks that takes are made one at a time.
         let mut zone = self.0.lock().unwrap_or_else(PoisonError::into_inner);
         let mut part = Handle::NONE;
         done(wait(|| unsafe { raw::tempolemon_try_take(&mut *zone, number, &mut part) }))?;
-        Ok(Cpu { part: UnsafeCell::new(part), zone: PhantomData })
+        Ok(Cpu { part: UnsafeCell::new(part), number, _owner: owner, zone: PhantomData })
     }
 
     /// Ends the zone and frees its memory. Pins that are still held are put first.
@@ -162,6 +211,12 @@ impl Zone {
     }
 }
 
+impl fmt::Debug for Zone {
+    fn fmt(&self, to: &mut fmt::Formatter<'_>) -> fmt::Result {
+        to.debug_struct("Zone").finish_non_exhaustive()
+    }
+}
+
 impl Drop for Zone {
     fn drop(&mut self) {
         let _ = self.close();
@@ -169,6 +224,18 @@ impl Drop for Zone {
 }
 
 /// A CPU of a zone. It is returned when it is dropped, with its list, stock and pins: who takes it next goes on with them.
+/// One by [`Zone::take`] borrows its zone, one by [`Zone::take_owned`] has a share of it.
+///
+/// ```
+/// # use tempolemon::{Error, Released, Sizes, Zone};
+/// # let zone = Zone::boot(&Sizes { frames: 64, cpus: 2, batch: 4, high: 8, stock: 4, ..Sizes::default() })?;
+/// let cpu = zone.take(1)?;
+/// let group = cpu.mkdir("/a")?;
+/// cpu.set_max(group, Some(1))?;
+/// let frame = cpu.alloc(group, 0)?;
+/// assert_eq!(cpu.release(frame)?, Released::Listed);
+/// # Ok::<(), Error>(())
+/// ```
 ///
 /// It may go to another thread, but two threads can't use it at once: it is `Send` and not `Sync`.
 ///
@@ -182,7 +249,7 @@ impl Drop for Zone {
 /// });
 /// ```
 ///
-/// It can't outlive its zone:
+/// It can't outlive a zone that it borrows:
 ///
 /// ```compile_fail,E0597
 /// # use tempolemon::{Sizes, Zone};
@@ -195,9 +262,12 @@ impl Drop for Zone {
 /// ```
 ///
 /// Each call is answered as the command of its name is in a script (docs/MANUAL.md, "Commands").
+#[must_use = "a CPU is returned when it is dropped"]
 #[repr(align(128))] // Each call writes it, so it has its cache lines for itself.
 pub struct Cpu<'zone> {
     part: UnsafeCell<Handle>,
+    number: u32,
+    _owner: Option<Arc<Zone>>, // (is dropped after the CPU was returned)
     zone: PhantomData<&'zone Zone>,
 }
 
@@ -462,6 +532,12 @@ impl Cpu<'_> {
     }
 }
 
+impl fmt::Debug for Cpu<'_> {
+    fn fmt(&self, to: &mut fmt::Formatter<'_>) -> fmt::Result {
+        to.debug_struct("Cpu").field("number", &self.number).finish_non_exhaustive()
+    }
+}
+
 impl Drop for Cpu<'_> {
     fn drop(&mut self) {
         wait(|| unsafe { raw::tempolemon_try_return(self.part.get()) });
@@ -470,6 +546,29 @@ impl Drop for Cpu<'_> {
 
 /// A reference of a CPU on a frame: the unit isn't reclaimed or reused while it is held. It is put when it is dropped, or
 /// by [`Pin::put`].
+///
+/// ```
+/// # use tempolemon::{Error, Released, Sizes, Zone};
+/// # let zone = Zone::boot(&Sizes { frames: 64, cpus: 2, batch: 4, high: 8, stock: 4, ..Sizes::default() })?;
+/// # let cpu = zone.take(1)?;
+/// # let group = cpu.mkdir("/a")?;
+/// let frame = cpu.alloc_dirty(group, 0)?;
+/// let pin = cpu.get(frame)?;
+/// assert_eq!(cpu.release(frame)?, Released::Left(1)); // the pin keeps the unit
+/// assert_eq!(pin.put()?, 0);
+/// # Ok::<(), Error>(())
+/// ```
+///
+/// A pin that isn't bound is put at once, which the compiler says:
+///
+/// ```compile_fail
+/// #![deny(unused_must_use)]
+/// # use tempolemon::{Error, Frame, Sizes, Zone};
+/// # let zone = Zone::boot(&Sizes { frames: 64, cpus: 2, batch: 4, high: 8, stock: 4, ..Sizes::default() })?;
+/// # let cpu = zone.take(1)?;
+/// cpu.get(Frame(0))?;
+/// # Ok::<(), Error>(())
+/// ```
 ///
 /// It can't outlive its CPU, and so not its zone:
 ///
@@ -493,6 +592,8 @@ impl Drop for Cpu<'_> {
 /// ```
 ///
 /// A pin that is leaked stays with its CPU, until the zone ends.
+#[derive(Debug)]
+#[must_use = "a pin is put when it is dropped"]
 pub struct Pin<'cpu> {
     cpu: &'cpu Cpu<'cpu>,
     frame: Frame,
@@ -500,6 +601,7 @@ pub struct Pin<'cpu> {
 
 impl Pin<'_> {
     /// The frame.
+    #[must_use]
     pub fn frame(&self) -> Frame {
         self.frame
     }

@@ -1,6 +1,7 @@
 //! Each call of the crate, what it returns and how it is refused.
 
 use std::mem::forget;
+use std::sync::{Arc, Mutex};
 use std::thread;
 use tempolemon::{Error, Frame, Group, Owner, Released, Sizes, Touched, Zone, PROOF};
 
@@ -135,6 +136,29 @@ fn a_cpu_goes_from_thread_to_thread() {
     let cpu = thread::scope(|scope| scope.spawn(move || cpu.alloc(group, 0).map(|_| cpu)).join().unwrap()).unwrap();
     cpu.settle().unwrap();
     assert_eq!(cpu.owner(Frame(0)), Ok(Owner::Group(group)));
+}
+
+#[test]
+fn owned_cpus_go_to_any_thread_and_keep_their_zone() {
+    let zone = Arc::new(boot());
+    let pool = Arc::new(Mutex::new(vec![zone.take_owned(1).unwrap()]));
+    let cpu = zone.take_owned(2).unwrap();
+    assert_eq!(zone.take_owned(2).err(), Some(Error::CpuOut));
+    assert!(Arc::into_inner(zone).is_none());
+    let pooled = pool.clone();
+    let group = thread::spawn(move || pooled.lock().unwrap()[0].mkdir("/a").unwrap()).join().unwrap();
+    let frame = thread::spawn(move || cpu.alloc_dirty(group, 0).unwrap()).join().unwrap();
+    let pooled = Arc::into_inner(pool).unwrap().into_inner().unwrap();
+    assert_eq!(pooled[0].owner(frame), Ok(Owner::Group(group)));
+}
+
+#[test]
+fn each_type_shows_what_it_is() {
+    let zone = boot();
+    let cpu = zone.take(2).unwrap();
+    let frame = cpu.alloc_dirty(cpu.mkdir("/a").unwrap(), 0).unwrap();
+    let shown = format!("{zone:?} {:?}", cpu.get(frame).unwrap());
+    assert_eq!(shown, "Zone { .. } Pin { cpu: Cpu { number: 2, .. }, frame: Frame(0) }");
 }
 
 #[test]

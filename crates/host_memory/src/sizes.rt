@@ -1,7 +1,8 @@
 //! The sizes of a zone, as a host in C passes them.
 
-ghost use Rattle.std.specs.Prelude.{◌≡◌};
+ghost use Rattle.std.specs.Prelude.{◌≡◌, None, Some, if◌then◌else◌};
 
+use crate::version::HEADER_VERSION;
 use zone_blocks::choices::Choices;
 use zone_blocks::config::Config;
 
@@ -22,27 +23,34 @@ pub struct Sizes {
     pub stock: u32,
     /// Pages that a round of reclaim for a charge wants at least: 0 to 64. 0 and 1 mean just those that are missing.
     pub reclaim_batch: u32,
-    /// Whether no group is killed, if it isn't 0: a charge without room is refused.
+    /// 0, or 1: no group is killed, and a charge without room is refused.
     pub no_kill: u32,
-    /// Whether turns of reclaim go round, if it isn't 0: each pass begins after the group that had the last turn.
+    /// 0, or 1: turns of reclaim go round, and each pass begins after the group that had the last turn.
     pub fair: u32,
 }
 
 impl Sizes {
-    ghost use Rattle.host_memory.specs.Sizes.{choices_of, config_of};
+    ghost use Rattle.host_memory.specs.Sizes.{choices_of, config_of, has_flags};
+    ghost use Rattle.host_memory.specs.Version.{header_version};
 
-    /// The same sizes for a boot.
-    pub fn config(&self) -> Config
-        ensures { result ≡ config_of self.now }
+    /// The same sizes for a boot, of a host that was compiled with the headers of this version; None if a flag is above
+    /// 1. Only that version has these fields, so nothing of them is read for a host of another one.
+    pub fn config(&self, version: u32) -> Option<Config>
+        requires { version ≡ header_version }
+        ensures { result ≡ (if has_flags self.now then Some (config_of self.now) else None) }
     {
-        Config {
+        prove!(version == HEADER_VERSION);
+        if self.no_kill > 1 || self.fair > 1 {
+            return None;
+        }
+        Some(Config {
             frames: self.frames,
             cpus: self.cpus,
             batch: self.batch,
             high: self.high,
             stock: self.stock,
             choices: self.choices(),
-        }
+        })
     }
 
     /// The choices among them. A choice that a host leaves 0 is that of a boot that makes none.

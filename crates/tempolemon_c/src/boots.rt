@@ -1,9 +1,8 @@
 //! The calls that start a boot, give it lines of a script, and end it.
 
 ghost use Rattle.std.specs.Prelude.{◌≡◌, ◌≢◌, ◌↔◌, None};
-ghost use Rattle.zone_blocks.specs.Config.{IsValidConfig};
 ghost use Rattle.tempolemon_c.specs.Behind.{behind};
-ghost use Rattle.host_memory.specs.{ExceedsBuffer, FillsBuffer, config_of, bad_config, bad_version, done, header_version};
+ghost use Rattle.host_memory.specs.{AreSizes, ExceedsBuffer, FillsBuffer, config_of, bad_config, bad_version, done, header_version};
 ghost use Rattle.host_memory.specs.{is_live, no_memory, not_live, small_buffer};
 ghost use Rattle.tempolemon_c.specs.Handles.{AnswersAndStoresUnread, AnswersLines, BootsNew, EndsBoot, HasUnread};
 ghost use Rattle.tempolemon_c.specs.Handles.{LinesRunOut, RefusesLines, TakesUnread};
@@ -35,7 +34,7 @@ pub extern "C" fn tempolemon_boot_as(
     ensures bad_version { (result ≡ bad_version) ↔ (version ≢ header_version) }
     ensures refused_live { (result ≡ is_live) ↔ ((version ≡ header_version) × (behind handle.old ≢ None)) }
     ensures bad_sizes { (result ≡ bad_config)
-        ↔ ((version ≡ header_version) × (behind handle.old ≡ None) × (¬ IsValidConfig (config_of sizes.now))) }
+        ↔ ((version ≡ header_version) × (behind handle.old ≡ None) × (¬ AreSizes sizes.now)) }
     ensures booted { result ≡ done → BootsNew (config_of sizes.now) (behind handle.new) }
     ensures stays { result ≢ done → behind handle.new ≡ behind handle.old }
 {
@@ -46,10 +45,12 @@ pub extern "C" fn tempolemon_boot_as(
     if handle.is_live() {
         return IS_LIVE;
     }
-    let sizes = sizes.config();
-    match boot(alloc, sizes) {
+    let Some(config) = sizes.config(version) else {
+        return BAD_CONFIG;
+    };
+    match boot(alloc, config) {
         Ok(boot) => {
-            if handle.start(alloc, boot, sizes) {
+            if handle.start(alloc, boot, config) {
                 DONE
             } else {
                 NO_MEMORY

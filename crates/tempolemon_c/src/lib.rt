@@ -10,9 +10,9 @@
 #![tactic(auto)]
 
 ghost use Rattle.std.specs.Prelude.{◌≡◌, ◌≢◌, ◌↔◌};
-ghost use Rattle.zone_blocks.specs.Config.{IsValidConfig};
 ghost use Rattle.script_lines.specs.Script.{IsFirstBadLine};
-ghost use Rattle.host_memory.specs.{FillsBuffer, ExceedsBuffer, config_of, bad_config, bad_version, done, header_version};
+ghost use Rattle.host_memory.specs.{FillsBuffer, AreSizes, ExceedsBuffer, config_of, bad_config, bad_version, done};
+ghost use Rattle.host_memory.specs.{header_version};
 ghost use Rattle.host_memory.specs.{small_buffer};
 ghost use Rattle.tempolemon_c.specs.Replays.{IsReplayAnswer};
 ghost use Rattle.tempolemon_c.specs.Statuses.{IsReplayStatus, bad_line};
@@ -65,7 +65,7 @@ pub extern "C" fn tempolemon_replay_as(
     ensures statuses { IsReplayStatus result }
     ensures bad_version { (result ≡ bad_version) ↔ (version ≢ header_version) }
     ensures bad_sizes { (result ≡ bad_config)
-        ↔ ((version ≡ header_version) × (¬ IsValidConfig (config_of sizes.now))) }
+        ↔ ((version ≡ header_version) × (¬ AreSizes sizes.now)) }
     ensures first_bad_line { result ≡ bad_line → IsFirstBadLine (config_of sizes.now) script.now first_bad.new }
     ensures answered { result ≡ done → FillsBuffer
         (IsReplayAnswer (config_of sizes.now) is_explained is_audited script.now) answers.old answers.new written.new }
@@ -83,7 +83,10 @@ pub extern "C" fn tempolemon_replay_as(
     }
     *written = 0;
     *first_bad = 0;
-    match answer_script(alloc, sizes.config(), script, is_explained, is_audited) {
+    let Some(config) = sizes.config(version) else {
+        return BAD_CONFIG;
+    };
+    match answer_script(alloc, config, script, is_explained, is_audited) {
         Ok(text) => {
             *written = text.len();
             if copy_answers(&text, answers) {

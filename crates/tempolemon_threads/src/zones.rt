@@ -1,8 +1,7 @@
 //! The calls that boot and end a zone, and take and return its CPUs.
 
 ghost use Rattle.std.specs.Prelude.{◌≡◌, ◌≢◌, ◌↔◌, IsSome, None};
-ghost use Rattle.zone_blocks.specs.Config.{IsValidConfig};
-ghost use Rattle.host_memory.specs.{config_of, bad_config, bad_cpu, bad_version, done, header_version, is_live, not_live};
+ghost use Rattle.host_memory.specs.{AreSizes, config_of, bad_config, bad_cpu, bad_version, done, header_version, is_live, not_live};
 ghost use Rattle.tempolemon_threads.specs.Behind.{part_behind, zone_behind};
 ghost use Rattle.tempolemon_threads.specs.Statuses.{IsZoneBootStatus, IsZoneEndStatus, IsReturnStatus, IsTakeStatus};
 ghost use Rattle.tempolemon_threads.specs.Statuses.{busy, cpu_out, cpus_out};
@@ -33,7 +32,7 @@ pub extern "C" fn tempolemon_zone_boot_as(
     ensures bad_version { (result ≡ bad_version) ↔ (version ≢ header_version) }
     ensures refused_live { (result ≡ is_live) ↔ ((version ≡ header_version) × (zone_behind zone.old ≢ None)) }
     ensures bad_sizes { (result ≡ bad_config)
-        ↔ ((version ≡ header_version) × (zone_behind zone.old ≡ None) × (¬ IsValidConfig (config_of sizes.now))) }
+        ↔ ((version ≡ header_version) × (zone_behind zone.old ≡ None) × (¬ AreSizes sizes.now)) }
     ensures booted { result ≡ done → BootsZone (config_of sizes.now) (zone_behind zone.new) }
     ensures stays { result ≢ done → zone_behind zone.new ≡ zone_behind zone.old }
 {
@@ -44,7 +43,10 @@ pub extern "C" fn tempolemon_zone_boot_as(
     if zone.is_live() {
         return IS_LIVE;
     }
-    match boot(alloc, sizes.config()) {
+    let Some(config) = sizes.config(version) else {
+        return BAD_CONFIG;
+    };
+    match boot(alloc, config) {
         Ok(boot) => {
             if zone.start(alloc, boot) {
                 DONE

@@ -1,6 +1,6 @@
 -- A CPU that may have one more pin may still have it after an allocation of a block, why a pin is missed all the same, and
 -- what such a call answers. Serves `Behind::alloc_pinned` and `Home::alloc_pinned`.
-use Rattle.std.proofs.Common.{◌≡◌, ◌≢◌, ◌∙◌, ℕ, ◌+◌, ◌<◌, ◌≤◌, Some, List, [], ◌∷◌, ◌++◌, length, ap, arith, inl, inr, refl, subst}
+use Rattle.std.proofs.Common.{◌≡◌, ◌≢◌, ◌∙◌, ℕ, ◌≤◌, Some, List, [], ◌∷◌, ◌++◌, length, ap, arith, inl, inr, refl, subst}
 use Rattle.std.specs.Prelude.{Ok}
 use Rattle.std.specs.Borrow.{Bor}
 use Rattle.std.proofs.lemmas.Bool.{cases_Bool}
@@ -22,7 +22,7 @@ use Rattle.group_tree.specs.declared.fault.Fault.TheVariants.{NotPinned}
 use Rattle.cpu_part.specs.Cpus.{KnownCpuLists}
 use Rattle.mem_machine.specs.{ReturnsAllBack, Settles, SettlesAllFresh, SettlesFresh, Transition, transition, UnlistsMany, VisitState, is_fresh_killed}
 use Rattle.mem_machine.specs.{visit_state}
-use Rattle.mem_alloc.specs.{AllocatesBlock, FindsNoBlock, TakesFreeBlock}
+use Rattle.mem_alloc.specs.{AllocatesBlock}
 use Rattle.mem_system.specs.declared.command.LockedCommand.{LockedCommand}
 use Rattle.mem_system.specs.declared.command.LockedCommand.TheVariants.{Alloc}
 use Rattle.mem_system.specs.declared.command.ReplyWithText.TheVariants.{Frame}

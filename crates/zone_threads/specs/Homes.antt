@@ -18,6 +18,17 @@ pub record KnownBehind : Type 0 where
   pub parked : List CpuInRun
   pub room : ℕ
 
+-- what was taken out is what was found behind the lock, with these sizes
+pub record IsTaken (sizes : Config) (found : Option (Box KnownBehind)) (taken : Box KnownBehind) : Type 0 where
+  pub before : Box KnownBehind
+  pub found_is : found ≡ Some before
+  pub taken_is : taken.value ≡ record before.value { locked = record before.value.locked { sizes = sizes } }
+
+-- the parts that are parked stay, and the room for them
+pub record KeepsParked (before after : KnownBehind) : Type 0 where
+  pub parked : after.parked ≡ before.parked
+  pub room : after.room ≡ before.room
+
 -- What a thread that has the lock took out from behind it, and what it put back.
 abbrev pub LockedChange : Type 0
 LockedChange = KnownChange (Box KnownBehind)

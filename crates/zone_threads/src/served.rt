@@ -7,6 +7,7 @@ ghost use Rattle.mem_system.specs.{IsOfZone, SettlesCaller, IsVisited, ServesFra
 ghost use Rattle.zone_threads.specs.Calling.{NoGroupBehindLock, IsMissingIn, IsReadUnderLock, ServesBlock};
 ghost use Rattle.zone_threads.specs.Calling.{AllocatesPinned, HasPinRoom, MayPinBlock, MissesPin, Pins};
 ghost use Rattle.zone_threads.specs.Calling.{ReadsPages, SaysPages, ServesDirtyUnit, ServesPages};
+ghost use Rattle.zone_threads.specs.Homes.{KeepsParked};
 
 use crate::behind::Behind;
 use crate::calls::{CallAnswer, GroupPages, ReadAnswer, ReadCall};
@@ -42,8 +43,9 @@ impl<N: BootName> Behind<N> {
         cmd: &LockedCommand<'_>,
     ) -> Outcome
         requires { IsOfZone N.table cmd.now }
-        ensures { IsVisited N.table self.old.locked.sizes (ServesOutcome N.table cmd.now result)
+        ensures served { IsVisited N.table self.old.locked.sizes (ServesOutcome N.table cmd.now result)
             cpu.old cpu.new }
+        ensures parked { KeepsParked self.old self.new }
     {
         self.locked.prove_quiet();
         let outcome = serve_outcome(&mut self.locked, tables, cpu, cmd);
@@ -63,6 +65,7 @@ impl<N: BootName> Behind<N> {
             IsVisited N.table self.old.locked.sizes (ServesFrameOutcome N.table group outcome)
             cpu.old cpu.new) }
         ensures none { IfNone result (NoGroupBehindLock N.table group cpu.old cpu.new) }
+        ensures parked { KeepsParked self.old self.new }
     {
         self.locked.prove_quiet();
         let Some(group) = find_group(self.locked.charges(), group) else {
@@ -87,6 +90,7 @@ impl<N: BootName> Behind<N> {
             IsVisited N.table self.old.locked.sizes (ServesBlock N.table group order outcome)
             cpu.old cpu.new) }
         ensures none { IfNone result (NoGroupBehindLock N.table group cpu.old cpu.new) }
+        ensures parked { KeepsParked self.old self.new }
     {
         self.locked.prove_quiet();
         let Some(group) = find_group(self.locked.charges(), group) else {
@@ -118,6 +122,7 @@ impl<N: BootName> Behind<N> {
             IsVisited N.table self.old.locked.sizes (ServesDirtyUnit N.table group order outcome)
             cpu.old cpu.new) }
         ensures none { IfNone result (NoGroupBehindLock N.table group cpu.old cpu.new) }
+        ensures parked { KeepsParked self.old self.new }
     {
         self.locked.prove_quiet();
         let Some(group) = find_group(self.locked.charges(), group) else {
@@ -141,7 +146,8 @@ impl<N: BootName> Behind<N> {
         order: u32,
     ) -> CallAnswer
         requires { MayPinBlock order cpu.old }
-        ensures { AllocatesPinned N.table self.old.locked.sizes group order result cpu.old cpu.new }
+        ensures allocates { AllocatesPinned N.table self.old.locked.sizes group order result cpu.old cpu.new }
+        ensures parked { KeepsParked self.old self.new }
     {
         self.locked.prove_quiet();
         let Some(group) = find_group(self.locked.charges(), group) else {
@@ -176,6 +182,7 @@ impl<N: BootName> Behind<N> {
     ) -> CallAnswer
         ensures says { SaysPages self.old.locked.machine.ledger group which result }
         ensures reads { ReadsPages N.table group which result cpu.old cpu.new }
+        ensures parked { KeepsParked self.old self.new }
     {
         self.locked.prove_quiet();
         let answer = pages_read(self.locked.charges(), group, which);
@@ -197,6 +204,7 @@ impl<N: BootName> Behind<N> {
             IsVisited N.table self.old.locked.sizes (ServesPages N.table group file pages outcome)
             cpu.old cpu.new) }
         ensures none { IfNone result (NoGroupBehindLock N.table group cpu.old cpu.new) }
+        ensures parked { KeepsParked self.old self.new }
     {
         self.locked.prove_quiet();
         let Some(group) = find_group(self.locked.charges(), group) else {
@@ -218,7 +226,8 @@ impl<N: BootName> Behind<N> {
     /// Settles a CPU.
     #[inline(always)]
     pub fn settle(&mut self, tables: &Tables<N>, cpu: &mut Cpu<N>)
-        ensures { IsVisited N.table self.old.locked.sizes (SettlesCaller N.table) cpu.old cpu.new }
+        ensures settles { IsVisited N.table self.old.locked.sizes (SettlesCaller N.table) cpu.old cpu.new }
+        ensures parked { KeepsParked self.old self.new }
     {
         self.locked.prove_quiet();
         serve_settle(&mut self.locked, tables, cpu);
@@ -227,7 +236,8 @@ impl<N: BootName> Behind<N> {
 
     /// Reads a file of a group, with its text.
     pub fn read(&mut self, tables: &Tables<N>, cpu: &mut Cpu<N>, asked: &ReadCall<'_>) -> ReadAnswer
-        ensures { IsReadUnderLock N.table self.old.locked.sizes asked.now cpu.old cpu.new result }
+        ensures reads { IsReadUnderLock N.table self.old.locked.sizes asked.now cpu.old cpu.new result }
+        ensures parked { KeepsParked self.old self.new }
     {
         let ReadCall { path, file } = *asked;
         self.locked.prove_quiet();

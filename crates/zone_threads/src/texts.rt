@@ -1,6 +1,7 @@
 //! The texts that a settled CPU gets of the zone.
 
 ghost use Rattle.mem_system.specs.Shown.{ReadsAfterSettling};
+ghost use Rattle.zone_threads.specs.Homes.{KeepsParked};
 ghost use Rattle.zone_threads.specs.Shown.{SaysText, SaysUnits};
 ghost use Rattle.zone_threads.specs.declared.texts.TextCall.TheVariants.{Blocks, Show, Stock};
 
@@ -42,7 +43,8 @@ impl<N: BootName> Behind<N> {
         cpu: &mut Cpu<N>,
         asked: TextCall,
     ) -> TextAnswer
-        ensures { ReadsAfterSettling N.table (SaysText N.table asked result) cpu.old cpu.new }
+        ensures says { ReadsAfterSettling N.table (SaysText N.table asked result) cpu.old cpu.new }
+        ensures parked { KeepsParked self.old self.new }
     {
         match asked {
             TextCall::Show => self.show(alloc, tables, cpu),
@@ -53,7 +55,8 @@ impl<N: BootName> Behind<N> {
     }
 
     fn show(&mut self, alloc: Global, tables: &Tables<N>, cpu: &mut Cpu<N>) -> TextAnswer
-        ensures { ReadsAfterSettling N.table (SaysText N.table Show result) cpu.old cpu.new }
+        ensures says { ReadsAfterSettling N.table (SaysText N.table Show result) cpu.old cpu.new }
+        ensures parked { KeepsParked self.old self.new }
     {
         self.locked.prove_quiet();
         let shown = show_text(alloc, &mut self.locked, tables, cpu);
@@ -65,7 +68,8 @@ impl<N: BootName> Behind<N> {
     }
 
     fn blocks(&mut self, alloc: Global, tables: &Tables<N>, cpu: &mut Cpu<N>) -> TextAnswer
-        ensures { ReadsAfterSettling N.table (SaysText N.table Blocks result) cpu.old cpu.new }
+        ensures says { ReadsAfterSettling N.table (SaysText N.table Blocks result) cpu.old cpu.new }
+        ensures parked { KeepsParked self.old self.new }
     {
         self.locked.prove_quiet();
         let shown = blocks_text(alloc, &mut self.locked, tables, cpu);
@@ -77,7 +81,8 @@ impl<N: BootName> Behind<N> {
     }
 
     fn stock(&mut self, alloc: Global, tables: &Tables<N>, cpu: &mut Cpu<N>) -> TextAnswer
-        ensures { ReadsAfterSettling N.table (SaysText N.table Stock result) cpu.old cpu.new }
+        ensures says { ReadsAfterSettling N.table (SaysText N.table Stock result) cpu.old cpu.new }
+        ensures parked { KeepsParked self.old self.new }
     {
         self.locked.prove_quiet();
         serve_settle(&mut self.locked, tables, cpu);
@@ -97,7 +102,8 @@ impl<N: BootName> Behind<N> {
         cpu: &mut Cpu<N>,
         path: &[u8],
     ) -> TextAnswer
-        ensures { ReadsAfterSettling N.table (SaysUnits N.table path.now result) cpu.old cpu.new }
+        ensures says { ReadsAfterSettling N.table (SaysUnits N.table path.now result) cpu.old cpu.new }
+        ensures parked { KeepsParked self.old self.new }
     {
         self.locked.prove_quiet();
         serve_settle(&mut self.locked, tables, cpu);

@@ -6,7 +6,7 @@ mod visits;
 
 ghost use Rattle.std.specs.Prelude.{◌≡◌, IfOk, IfSome};
 ghost use Rattle.mem_system.specs.Boots.{IsSizedAs};
-ghost use Rattle.zone_threads.specs.Homes.{EndsParked};
+ghost use Rattle.zone_threads.specs.Homes.{EndsParked, IsTaken};
 ghost use Rattle.zone_blocks.specs.Config.{IsValidConfig};
 
 use crate::behind::Behind;
@@ -55,11 +55,12 @@ impl<N: BootName> Zone<N> {
         }
     }
 
-    // Tries the lock: what is found has the sizes of the zone.
+    // Tries the lock. What is taken is what lay behind it, with the sizes of the zone, which it has already.
     #[inline(always)]
     fn take(&self) -> Option<(Box<Behind<N>, Global>, Loan<Box<Behind<N>, Global>>)>
         ensures fits { IfSome result (λ taken. taken.1.table_id ≡ self.now.lock.table.shared.table_id) }
         ensures sizes { IfSome result (λ taken. taken.0.value.locked.sizes ≡ self.now.sizes) }
+        ensures found { IfSome result (λ taken. IsTaken self.now.sizes taken.1.found taken.0) }
     {
         let (mut behind, loan) = self.lock.take()?;
         behind.locked.set_sizes(self.sizes);

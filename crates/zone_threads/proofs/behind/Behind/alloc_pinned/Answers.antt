@@ -9,8 +9,8 @@ use Rattle.zone_threads.specs.Calling.{MissesPin}
 use Rattle.zone_threads.proofs.Pinning.{missed_for, refusal_served, room_left}
 use Rattle.zone_threads.proofs.behind.Behind.alloc_pinned.Goals as goal
 
-pub returns-in_default-outcome : goal.returns-in_default-outcome
-returns-in_default-outcome g c =
+pub returns-in_default-outcome-clause-allocates : goal.returns-in_default-outcome-clause-allocates
+returns-in_default-outcome-clause-allocates g c =
     let done = c.serve_outcome-outcome in
     let groups : c.self.inside.locked.machine.ledger.groups ≡ c.tree.result.now = ap (λ (l : Ledger). l.groups) (sym c.charges-2.ensures) ∙ sym c.tree.ensures.tree in
     let named : path_of c.self.inside.locked.machine.ledger.groups c.args.group ≡ Some c.as_bytes-path.result.now
@@ -34,8 +34,8 @@ pin-requires-clause-frame g c =
     (locked_state c.serve_outcome-outcome.new.locked c.serve_outcome-outcome.new.cpu) c.args.order c.in-Frame.ensures.served c.in-Frame.ensures.settled.0
     c.prove_quiet-2.ensures.consistent
 
-pub returns-then-pin : goal.returns-then-pin
-returns-then-pin g c =
+pub returns-then-pin-clause-allocates : goal.returns-then-pin-clause-allocates
+returns-then-pin-clause-allocates g c =
     let done = c.serve_outcome-outcome in
     let groups : c.self.inside.locked.machine.ledger.groups ≡ c.tree.result.now = ap (λ (l : Ledger). l.groups) (sym c.charges-2.ensures) ∙ sym c.tree.ensures.tree in
     let named : path_of c.self.inside.locked.machine.ledger.groups c.args.group ≡ Some c.as_bytes-path.result.now
@@ -59,8 +59,8 @@ serve_outcome-released-requires g c =
     (locked_state c.serve_outcome-outcome.new.locked c.serve_outcome-outcome.new.cpu) c.args.order c.in-Frame.ensures.served c.in-Frame.ensures.settled.0
     c.prove_quiet-2.ensures.consistent
 
-pub returns : goal.returns
-returns g c =
+pub returns-clause-allocates : goal.returns-clause-allocates
+returns-clause-allocates g c =
     let done = c.serve_outcome-outcome in
     let missed = locked_state done.new.locked c.pin.new.cpu in
     let asks : MissesPin g.N.BootName.table c.in-Frame.frame done.new.cpu c.pin.new.cpu = search rules in

@@ -1,8 +1,8 @@
 use Rattle.std.proofs.Common.{refl}
 use Rattle.zone_threads.proofs.behind.Behind.blocks.Goals as goal
 
-pub returns-in_default : goal.returns-in_default
-returns-in_default g c = record {
+pub returns-in_default-clause-says : goal.returns-in_default-clause-says
+returns-in_default-clause-says g c = record {
   found = c.self.inside.locked;
   settled = c.blocks_text-shown.new.locked;
   left = c.blocks_text-shown.new.locked;
@@ -13,8 +13,8 @@ returns-in_default g c = record {
   told = tt;
 }
 
-pub returns : goal.returns
-returns g c = record {
+pub returns-clause-says : goal.returns-clause-says
+returns-clause-says g c = record {
   found = c.self.inside.locked;
   settled = c.blocks_text-shown.new.locked;
   left = c.blocks_text-shown.new.locked;

@@ -29,8 +29,8 @@ replied t sizes asked outcome reply from to v is = record {
   sound_after = v.sound_after;
 }
 
-pub returns-in-Refused : goal.returns-in-Refused
-returns-in-Refused g c =
+pub returns-in-Refused-clause-reads : goal.returns-in-Refused-clause-reads
+returns-in-Refused-clause-reads g c =
     replied g.N.BootName.table c.args.self.now.locked.sizes (cmd.Read c.args.asked.now.path c.args.asked.now.file) c.serve_outcome-outcome.result
     (reply.Refused c.in-Refused.fault) c.args.cpu.now c.serve_outcome-outcome.new.cpu
     (record {
@@ -43,8 +43,8 @@ returns-in-Refused g c =
     })
     (ap (reply_of c.serve_outcome-outcome.new.locked.machine.ledger) c.in-Refused.is)
 
-pub returns-in-Stat : goal.returns-in-Stat
-returns-in-Stat g c =
+pub returns-in-Stat-clause-reads : goal.returns-in-Stat-clause-reads
+returns-in-Stat-clause-reads g c =
     replied g.N.BootName.table c.args.self.now.locked.sizes (cmd.Read c.args.asked.now.path c.args.asked.now.file) c.serve_outcome-outcome.result
     (reply.Text c.stat_text.result) c.args.cpu.now c.serve_outcome-outcome.new.cpu
     (record {
@@ -57,8 +57,8 @@ returns-in-Stat g c =
     })
     (ap (reply_of c.serve_outcome-outcome.new.locked.machine.ledger) c.in-Stat.is ∙ ap reply.Text (sym c.stat_text.ensures))
 
-pub returns : goal.returns
-returns g c =
+pub returns-clause-reads : goal.returns-clause-reads
+returns-clause-reads g c =
     let t = g.N.BootName.table in
     let sizes = c.args.self.now.locked.sizes in
     let ledger = c.serve_outcome-outcome.new.locked.machine.ledger in

@@ -2,8 +2,8 @@ use Rattle.std.proofs.Common.{ap}
 use Rattle.zone_threads.specs.Homes.{KnownBehind}
 use Rattle.zone_threads.proofs.behind.Behind.settle.Goals as goal
 
-pub returns : goal.returns
-returns g c = record {
+pub returns-clause-settles : goal.returns-clause-settles
+returns-clause-settles g c = record {
   found = c.self.inside.locked;
   left = c.serve_settle.new.locked;
   sizes_are = ap (λ (b : KnownBehind). b.locked.sizes) c.self.view_is;

@@ -2,8 +2,8 @@
 use Rattle.std.proofs.Common.{rules, refl}
 use Rattle.zone_threads.proofs.behind.Behind.stock.Goals as goal
 
-pub returns-in_default : goal.returns-in_default
-returns-in_default g c =
+pub returns-in_default-clause-says : goal.returns-in_default-clause-says
+returns-in_default-clause-says g c =
     record {
       found = c.self.inside.locked;
       settled = c.serve_settle.new.locked;
@@ -15,8 +15,8 @@ returns-in_default g c =
       told = tt;
     }
 
-pub returns : goal.returns
-returns g c =
+pub returns-clause-says : goal.returns-clause-says
+returns-clause-says g c =
     record {
       found = c.self.inside.locked;
       settled = c.serve_settle.new.locked;

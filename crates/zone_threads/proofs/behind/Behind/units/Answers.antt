@@ -4,8 +4,8 @@ use Rattle.std.specs.String.{string_bytes}
 use Rattle.zone_threads.proofs.UnitsShown.{there_is, units_missing, units_shown}
 use Rattle.zone_threads.proofs.behind.Behind.units.Goals as goal
 
-pub returns-in_default : goal.returns-in_default
-returns-in_default g c =
+pub returns-in_default-clause-says : goal.returns-in_default-clause-says
+returns-in_default-clause-says g c =
     record {
       found = c.self.inside.locked;
       settled = c.serve_settle.new.locked;
@@ -17,8 +17,8 @@ returns-in_default g c =
       told = tt;
     }
 
-pub returns-then-not-is_there : goal.returns-then-not-is_there
-returns-then-not-is_there g c =
+pub returns-then-not-is_there-clause-says : goal.returns-then-not-is_there-clause-says
+returns-then-not-is_there-clause-says g c =
     let gone : c.in-Ok.is_there ≡ false = search rules in
     record {
       found = c.self.inside.locked;
@@ -31,8 +31,8 @@ returns-then-not-is_there g c =
       told = units_missing _ _ _ _ _ _ (λ shown told. true≢false (sym told.0 ∙ gone)) c.in-Ok.ensures.units;
     }
 
-pub returns : goal.returns
-returns g c =
+pub returns-clause-says : goal.returns-clause-says
+returns-clause-says g c =
     let there : c.in-Ok.is_there ≡ true = search rules in
     let same : c.into_bytes.result.items ≡ string_bytes c.write_units_at-shown.new.text = search rules in
     record {
