@@ -1,17 +1,14 @@
 /* A page cache for SQLite (sqlite3_pcache_methods2) on the library for threads: see README.md.
  *
- * Frame k is the 4 KiB at arena + 4096 * k. A page of a database is a unit: a frame, or a block if it is larger. Each cache
- * is a group /db/TENANT/cN, and has the CPU of that number: SQLite makes one call at a time on a cache. The zone has twice as
- * many frames as /db may use, so that blocks are found between pinned pages.
+ * Frame k is the 4 KiB at arena + 4096 * k. A page is a unit: a frame, or a block if it is larger. It is charged to the group
+ * /db/TENANT of its cache. The zone has twice as many frames as /db may use, so that blocks are found between pinned pages.
+ * A lane is a CPU with a mutex: a thread uses one. SQLite makes one call at a time on a cache, from any thread.
  *
- * A page is pinned by a reference, or by its mark as dirty: a new one, and one for which its CPU has no reference left. A page
- * that isn't pinned is clean, and any allocation may reclaim it, and says nothing. So each frame has a tag: the group and the
- * key of its page. A hit takes a reference, which keeps the unit what it is, and pins the page if the tag is still right.
- * A fresh frame can't be referenced: it gets its tag before it is settled. A block can be, so `births` says that one may lack
- * its tag: then the hit asks for the owner.
- *
- * Which page is replaced is the library's choice. It kills nobody: an allocation for which a limit has no room is refused. So
- * pins are counted only for SQLite, which is asked to write changed pages to the file once half of a limit is pinned.
+ * A page is pinned by a reference of a lane, or by its mark as dirty: a new one, and one whose lane has no reference left. A
+ * page that isn't pinned is clean, and any allocation may reclaim it, and says nothing. So each frame has a tag: the cache and
+ * the key of its page. A hit takes a reference, which keeps the unit what it is, and pins the page if the tag is still right.
+ * A fresh frame can't be referenced, and gets its tag before it is settled. A hit waits while a block may lack its tag.
+ * The library chooses which page is replaced, and kills nobody: an allocation for which a limit has no room is refused.
  */
 #define _GNU_SOURCE
 #include "tempolemon_pcache.h"
@@ -33,54 +30,52 @@
 #define SHUT(it, frames) __asan_poison_memory_region((it)->page.pBuf, (size_t)(frames)*FRAME)
 #elif defined(__SANITIZE_THREAD__)
 #include <sanitizer/tsan_interface.h>
-#define OPEN(it, frames) for (uint32_t at_ = 0; at_ < (frames); at_++) __tsan_acquire(&(it)[at_])
-#define SHUT(it, frames) for (uint32_t at_ = 0; at_ < (frames); at_++) __tsan_release(&(it)[at_])
+#define OPEN(it, frames) for (uint32_t at_ = 0; at_ < (frames); at_++) __tsan_acquire((char *)(it)->page.pBuf + at_ * FRAME)
+#define SHUT(it, frames) for (uint32_t at_ = 0; at_ < (frames); at_++) __tsan_release((char *)(it)->page.pBuf + at_ * FRAME)
 #else
 #define OPEN(it, frames) ((void)(it))
 #define SHUT(it, frames) ((void)(it))
 #endif
 
-enum { FRAME = 4096, EXTRA = 256, GROUPS = 64, TOP = 1 };
+enum { FRAME = 4096, GROUPS = 64, LANES = 64, TOP = 1, MOST_CACHES = 1 << 20, FIRST_TABLE = 64 };
 enum { LEAST_BUDGET = 256, MOST_BUDGET = 524288, LEAST_LIMIT = 64, NO_LIMIT = INT32_MAX }; /* in frames */
-enum { MOST_REFERENCES = 250, STEP = 16, RECLAIM_BATCH = 8 };
-enum { NO_FRAMES = 16, LESS_RECLAIMED = 17 }; /* refusals: of an allocation, of memory.reclaim */
+enum { MOST_REFERENCES = 250, STEP = 16, RECLAIM_BATCH = 8, NO_FRAMES = 16 }; /* the last is a refusal */
 
 typedef struct {
     sqlite3_pcache_page page; /* first, since SQLite's pointers lead here */
-    _Atomic uint64_t tag;     /* the cache's group, the key (32 bits), is it pinned (1 bit); 0 if the frame is nobody's */
-    uint32_t used;            /* the clock when its last use was noted */
-    bool is_marked;           /* pinned by its mark */
-    uint64_t extra[EXTRA / 8];
+    _Atomic uint64_t tag;     /* the cache's number, the key (32 bits), is it pinned (1 bit); 0 if the frame is nobody's */
+    uint32_t used, lane;      /* the clock when a use was noted last; whose reference pins it, or 0 if its mark does */
+    uint64_t extra[];         /* SQLite's own */
 } frame_page;
-
-typedef struct {
-    char path[80];
-    uint32_t caches;                /* in it and below it */
-    _Atomic uint32_t limit, pinned; /* of a tenant and of /db, in frames */
-} group;
-
+typedef struct { char path[64]; _Atomic int32_t limit, pinned; } group; /* the last two in frames */
 typedef struct { uint32_t key, frame; } entry;
+typedef struct {
+    tempolemon_cpu cpu;
+    pthread_mutex_t mutex; /* of all here */
+    uint32_t references;
+    int32_t pinned[GROUPS]; /* frames that the groups don't count yet */
+} lane;
 
 struct sqlite3_pcache {
-    tempolemon_cpu *cpu;
-    group *tenant;
-    entry *table; /* by open addressing; key 0 is none. The page is gone if the frame's tag isn't the key's */
-    uint32_t mask, count, greatest, number, order, frames, references; /* greatest: no key was above it */
-    uint32_t size, pinned, counted; /* the cache_size and what is pinned, in pages; what of it its tenant counts, in frames */
-    bool is_purgeable;
+    group *tenant; /* NULL if the number is spare */
+    entry *table;  /* by open addressing; key 0 is none. The page is gone if the frame's tag isn't the key's */
+    uint32_t mask, greatest, number, spare, order, frames, size; /* no key was above `greatest`; spare: the next spare number */
+    _Atomic uint64_t entries, pinned, hits, misses;
 };
 
 static struct {
-    uint32_t budget, frames, serial; /* frames that may be used, and of the zone; the number of the newest cache */
-    frame_page *pages;
-    unsigned char *arena;
+    uint32_t budget, frames; /* frames that may be used, and of the zone */
+    size_t stride, size;     /* the bytes of a frame_page with `extra`, and of the arena with all behind it */
+    unsigned char *arena, *pages;
     tempolemon_zone zone;
-    tempolemon_cpu cpus[GROUPS];    /* the first is for all that isn't a cache's */
-    _Atomic uint32_t clock, births; /* frames that were allocated, and blocks being allocated */
-    pthread_mutex_t mutex;          /* of the first CPU, and of the groups but for limit and pinned */
+    _Atomic uint32_t births; /* blocks being allocated: one at most, under the mutex `birth` */
+    pthread_mutex_t birth, mutex; /* `mutex` is of what follows, except the groups' limit and pinned */
+    sqlite3_pcache *caches; /* by number, from 1 */
+    uint32_t used, spare, live; /* numbers that were given, the first spare one, caches that live */
     group groups[GROUPS];
-} pool = {.mutex = PTHREAD_MUTEX_INITIALIZER};
-
+    _Atomic uint32_t clock, threads; /* frames that were allocated, threads that came */
+    lane lanes[LANES + 1];           /* by the CPU's number, from 1 */
+} pool = {.birth = PTHREAD_MUTEX_INITIALIZER, .mutex = PTHREAD_MUTEX_INITIALIZER};
 static _Thread_local char tenant_path[64] = "/db/main";
 
 static void need(uint8_t status) {
@@ -89,140 +84,136 @@ static void need(uint8_t status) {
     abort();
 }
 
-static tempolemon_result serve(uint8_t (*call)(tempolemon_cpu *, uint32_t, tempolemon_result *), tempolemon_cpu *cpu,
-                               uint32_t frame) {
+/* Locks the lane of this number, or the thread's own if that is 0. A thread locks one at a time. */
+static lane *enter(uint32_t number) {
+    static _Thread_local uint32_t own;
+    lane *mine = &pool.lanes[number ? number : own ? own : (own = pool.threads++ % LANES + 1)];
+    pthread_mutex_lock(&mine->mutex);
+    return mine;
+}
+static void leave(lane *mine) { pthread_mutex_unlock(&mine->mutex); }
+static tempolemon_result serve(uint8_t (*call)(tempolemon_cpu *, uint32_t, tempolemon_result *), lane *mine, uint32_t frame) {
     tempolemon_result result;
-    need(call(cpu, frame, &result));
+    need(call(&mine->cpu, frame, &result));
     return result;
 }
 
-/* Finds a group or makes it, under the pool's mutex: its number, or 0 if all are taken. */
+/* Finds a group or makes it, under the pool's mutex: its number, or 0 if all are taken. Nearly an eighth of the budget is
+ * protected, in equal shares of the tenants: else a scan would take from one that is seldom used what it uses most. */
 static uint32_t group_at(const char *path) {
     tempolemon_result result;
-    for (uint32_t at = 1; at < GROUPS; at++)
-        if (!strcmp(pool.groups[at].path, path)) return at;
-    if (tempolemon_on_mkdir(&pool.cpus[0], path, strlen(path), &result) != TEMPOLEMON_DONE) return 0;
-    group *made = &pool.groups[result.number];
-    *made = (group){.limit = NO_LIMIT};
-    snprintf(made->path, sizeof made->path, "%s", path);
-    return (uint32_t)result.number;
+    char share[24];
+    uint32_t number = 1;
+    for (; number < GROUPS && *pool.groups[number].path; number++)
+        if (!strcmp(pool.groups[number].path, path)) return number;
+    lane *mine = enter(0);
+    const bool is_made = tempolemon_on_mkdir(&mine->cpu, path, strlen(path), &result) == TEMPOLEMON_DONE;
+    if (is_made) strcpy(pool.groups[number].path, path);
+    if (is_made) pool.groups[number].limit = NO_LIMIT;
+    snprintf(share, sizeof share, "%uK", pool.budget / 2 / number);
+    for (const group *it = &pool.groups[TOP + 1]; is_made && it <= &pool.groups[number]; it++)
+        need(tempolemon_on_write(&mine->cpu, it->path, strlen(it->path), "memory.low", 10, share, strlen(share), &result));
+    leave(mine);
+    return is_made ? number : 0;
 }
 
-/* Notes that a cache was made (1) or is gone (-1), under the pool's mutex. An eighth of the budget is protected, and all caches
- * have equal shares of it. Else a scan would take from databases that are seldom used what they use most. */
-static void count_cache(uint32_t number, group *tenant, int caches) {
-    group *const counts[] = {&pool.groups[number], tenant, &pool.groups[TOP]};
-    for (int at = 0; at < 3; at++) counts[at]->caches += (uint32_t)caches;
-    for (const group *it = &pool.groups[TOP + 1]; it < &pool.groups[GROUPS]; it++) {
-        tempolemon_result result;
-        char value[24];
-        if (!it->caches) continue;
-        snprintf(value, sizeof value, "%uK", pool.budget / 2 / pool.groups[TOP].caches * it->caches);
-        need(tempolemon_on_write(&pool.cpus[0], it->path, strlen(it->path), "memory.low", 10, value, strlen(value), &result));
-    }
+/* Counts a page as pinned (1), or not any more (-1). The sums that all threads write may miss up to STEP frames of a lane. */
+static void count_pin(lane *mine, sqlite3_pcache *cache, int pages) {
+    int32_t *more = &mine->pinned[cache->tenant - pool.groups];
+    cache->pinned += (uint64_t)pages;
+    *more += pages * (int32_t)cache->frames;
+    if (abs(*more) < STEP) return;
+    cache->tenant->pinned += *more;
+    pool.groups[TOP].pinned += *more;
+    *more = 0;
 }
 
-/* Reclaims so many frames from a group, or what can be reclaimed. */
-static void reclaim(tempolemon_cpu *cpu, uint32_t number, uint64_t frames) {
-    tempolemon_result result;
-    const uint8_t status = tempolemon_on_reclaim(cpu, number, frames, &result);
-    if (status != LESS_RECLAIMED) need(status);
+/* Whether SQLite should write a changed page to the file before it pins one more, so that others have half of each limit. A
+ * cache of few pages is spared: for an ephemeral table SQLite would open a file. */
+static bool is_crowded(const sqlite3_pcache *cache) {
+    const group *own = cache->tenant, *top = &pool.groups[TOP];
+    return cache->pinned * cache->frames >= STEP && (own->pinned > own->limit / 2 || top->pinned > top->limit / 2);
 }
 
-/* Counts a page as pinned (1), or not any more (-1). The sums that all threads write may miss up to STEP frames of a cache. */
-static void count_pin(sqlite3_pcache *cache, int pages) {
-    cache->pinned += (uint32_t)pages;
-    const uint32_t more = cache->pinned * cache->frames - cache->counted;
-    if (more + STEP < 2 * STEP) return;
-    cache->counted += more;
-    cache->tenant->pinned += more;
-    pool.groups[TOP].pinned += more;
-}
-
-/* Whether SQLite should write changed pages to the file before it gets another one, so that others have half of each limit. */
-static bool should_spill(const sqlite3_pcache *cache) {
-    const group *tenant = cache->tenant, *top = &pool.groups[TOP];
-    if (tenant->pinned > tenant->limit / 2 || top->pinned > top->limit / 2) return true;
-    return cache->is_purgeable && cache->pinned + cache->pinned / 8 >= cache->size;
-}
-
+static frame_page *page_at(uint32_t frame) { return (frame_page *)(pool.pages + frame * pool.stride); }
+static uint32_t frame_of(const frame_page *it) { return (uint32_t)(((unsigned char *)it->page.pBuf - pool.arena) / FRAME); }
 static uint64_t tag_of(const sqlite3_pcache *cache, uint32_t key) { return (uint64_t)cache->number << 33 | (uint64_t)key << 1; }
-static bool retag(uint32_t frame, uint64_t from, uint64_t to) {
-    return atomic_compare_exchange_strong(&pool.pages[frame].tag, &from, to);
-}
-
-static bool hold(tempolemon_cpu *cpu, uint32_t frame) {
-    uint8_t kind = TEMPOLEMON_RACED;
-    while (kind == TEMPOLEMON_RACED) kind = serve(tempolemon_on_get, cpu, frame).kind;
-    return kind == TEMPOLEMON_HELD;
-}
-static void let_go(tempolemon_cpu *cpu, uint32_t frame) {
+static void let_go(lane *mine, uint32_t frame) {
     tempolemon_result result;
-    if (serve(tempolemon_on_put, cpu, frame).kind == TEMPOLEMON_LAST) need(tempolemon_on_settle(cpu, &result));
+    if (serve(tempolemon_on_put, mine, frame).kind == TEMPOLEMON_LAST) need(tempolemon_on_settle(&mine->cpu, &result));
 }
 
-/* Pins a page that isn't pinned. If that can't be done, the cache has lost it. */
+/* Pins a page that has this tag, if it is still there: else the cache has lost it. */
 static bool pin(sqlite3_pcache *cache, uint32_t frame, uint64_t tag) {
-    frame_page *page = &pool.pages[frame];
-    const bool is_held = hold(cache->cpu, frame);
-    bool is_pinned = is_held && retag(frame, tag, tag | 1);
-    /* a block sets its tag before it lowers `births`, so the tag is read again after that */
-    if (is_pinned && pool.births) is_pinned = serve(tempolemon_on_owner, cache->cpu, frame).number == cache->number;
-    if (is_pinned && page->tag == (tag | 1)) {
+    frame_page *page = page_at(frame);
+    lane *mine = enter(0);
+    uint8_t kind;
+    do kind = serve(tempolemon_on_get, mine, frame).kind; while (kind == TEMPOLEMON_RACED);
+    if (kind == TEMPOLEMON_HELD && pool.births) pthread_mutex_lock(&pool.birth), pthread_mutex_unlock(&pool.birth);
+    const bool is_pinned = kind == TEMPOLEMON_HELD && page->tag == tag;
+    if (is_pinned) {
         OPEN(page, cache->frames);
-        count_pin(cache, 1);
-        page->is_marked = cache->references == MOST_REFERENCES;
-        cache->references += !page->is_marked;
-        if (page->is_marked) serve(tempolemon_on_dirty, cache->cpu, frame), let_go(cache->cpu, frame);
-        return true;
+        atomic_store_explicit(&page->tag, tag | 1, memory_order_release);
+        count_pin(mine, cache, 1);
+        page->lane = mine->references < MOST_REFERENCES ? (uint32_t)(mine - pool.lanes) : 0;
+        mine->references += page->lane != 0;
+        if (!page->lane) serve(tempolemon_on_dirty, mine, frame);
+        /* it takes the lock to note a use, so none is noted again before many frames are allocated */
+        if (pool.clock - page->used >= pool.budget / 16) serve(tempolemon_on_touch, mine, frame), page->used = pool.clock;
     }
-    (void)(retag(frame, tag, 0) || retag(frame, tag | 1, 0));
-    if (is_held) let_go(cache->cpu, frame);
-    return false;
+    if (kind == TEMPOLEMON_HELD && !(is_pinned && page->lane)) let_go(mine, frame);
+    leave(mine);
+    return is_pinned;
 }
 
-/* Ends a pin. The unit gets this tag and is kept as a clean one, or is freed if that is 0. */
-static void end_pin(sqlite3_pcache *cache, uint32_t frame, uint64_t tag) {
-    const bool is_marked = pool.pages[frame].is_marked;
-    SHUT(&pool.pages[frame], cache->frames);
-    atomic_store_explicit(&pool.pages[frame].tag, tag, memory_order_release); /* after it the frame may become another's */
-    if (!tag) serve(tempolemon_on_release, cache->cpu, frame);
-    else if (is_marked) serve(tempolemon_on_clean, cache->cpu, frame);
-    if (!is_marked) let_go(cache->cpu, frame);
-    cache->references -= !is_marked;
-    count_pin(cache, -1);
-}
-
-/* The entry of this key, or the free one where it belongs. */
-static entry *find(const sqlite3_pcache *cache, uint32_t key) {
-    uint32_t at = key * 2654435761u >> 7;
-    while (cache->table[at & cache->mask].key && cache->table[at & cache->mask].key != key) at++;
-    return &cache->table[at & cache->mask];
+/* Ends a pin. The unit is kept as a clean one, or is freed. */
+static void unpin(sqlite3_pcache *cache, sqlite3_pcache_page *page, int is_freed) {
+    frame_page *it = (frame_page *)page;
+    const uint32_t frame = frame_of(it), number = it->lane;
+    lane *mine = enter(number);
+    SHUT(it, cache->frames);
+    atomic_store_explicit(&it->tag, is_freed ? 0 : it->tag - 1, memory_order_release);
+    if (is_freed) serve(tempolemon_on_release, mine, frame); /* from here on the frame may become another's */
+    else if (!number) serve(tempolemon_on_clean, mine, frame);
+    if (number) let_go(mine, frame), mine->references--;
+    count_pin(mine, cache, -1);
+    leave(mine);
 }
 
 /* The tag of an entry's page, or 0 if the page is gone. It is read once: by the next look the frame may be another's. */
 static uint64_t tag_at(const sqlite3_pcache *cache, const entry *it) {
-    const uint64_t tag = atomic_load_explicit(&pool.pages[it->frame].tag, memory_order_acquire);
+    const uint64_t tag = atomic_load_explicit(&page_at(it->frame)->tag, memory_order_acquire);
     return it->key && tag >> 1 == tag_of(cache, it->key) >> 1 ? tag : 0;
 }
 
+/* The entry of this key, or else a free one; in a full table it has no key, or for a new entry is one whose page is gone. */
+static entry *find(const sqlite3_pcache *cache, uint32_t key, bool is_new) {
+    static entry none;
+    entry *it, *gone = &none;
+    for (uint32_t at = key * 2654435761u >> 7, end = at + cache->mask; at <= end; at++) {
+        it = &cache->table[at & cache->mask];
+        if (!it->key || it->key == key) return it;
+        if (is_new && !tag_at(cache, it)) gone = it;
+    }
+    return gone;
+}
 static void insert(sqlite3_pcache *cache, entry new) {
-    entry *place = find(cache, new.key);
+    entry *place = find(cache, new.key, true);
     if (new.key > cache->greatest) cache->greatest = new.key;
-    cache->count += !place->key;
+    cache->entries += !place->key;
     *place = new;
 }
 
 /* Makes room for one entry more, if need be by a new table without the entries whose pages are gone. */
 static bool make_room(sqlite3_pcache *cache) {
-    if (cache->count <= cache->mask / 2) return true;
+    if (cache->entries <= cache->mask / 2) return true;
     const entry *old = cache->table, *end = old + cache->mask + 1;
     uint32_t live = 0;
     for (const entry *it = old; it < end; it++) live += tag_at(cache, it) != 0;
     const uint32_t slots = (cache->mask + 1) * (live > cache->mask / 4 ? 2 : 1);
     entry *table = calloc(slots, sizeof *table);
     if (!table) return false;
-    cache->table = table, cache->mask = slots - 1, cache->count = 0;
+    cache->table = table, cache->mask = slots - 1, cache->entries = 0;
     for (const entry *it = old; it < end; it++)
         if (tag_at(cache, it)) insert(cache, *it);
     free((void *)old);
@@ -232,156 +223,154 @@ static bool make_room(sqlite3_pcache *cache) {
 /* Frees the page of an entry, if it is still there. */
 static void drop(sqlite3_pcache *cache, const entry *it) {
     const uint64_t tag = tag_at(cache, it);
-    if (tag & 1 || (tag && pin(cache, it->frame, tag))) end_pin(cache, it->frame, 0);
+    if (tag & 1 || (tag && pin(cache, it->frame, tag))) unpin(cache, &page_at(it->frame)->page, true);
 }
 
-/* Allocates a unit with this tag, which is pinned by its mark: its page, or NULL. */
-static frame_page *allocate(const sqlite3_pcache *cache, uint64_t tag, bool is_urgent) {
-    tempolemon_result result;
-    if (cache->order) pool.births++;
-    const uint8_t status = cache->order ? tempolemon_on_alloc_dirty(cache->cpu, cache->number, cache->order, &result)
-                                        : tempolemon_on_alloc(cache->cpu, cache->number, 0, &result);
-    if (status == TEMPOLEMON_DONE) pool.pages[result.number].tag = tag;
-    if (cache->order) pool.births--;
-    if (status == NO_FRAMES && is_urgent) { /* perhaps no block is free before all clean pages are reclaimed */
-        reclaim(cache->cpu, TOP, pool.frames);
-        return allocate(cache, tag, false);
-    }
+/* A page that isn't in the cache, or NULL. It is pinned by its mark. */
+static sqlite3_pcache_page *add_page(sqlite3_pcache *cache, uint32_t key, bool is_urgent) {
+    if (!make_room(cache)) return NULL;
+    const uint32_t number = (uint32_t)(cache->tenant - pool.groups);
+    tempolemon_result unit;
+    uint8_t status;
+    lane *mine = enter(0);
+    do { /* a block may be free only once more clean pages are reclaimed */
+        if (cache->order) pthread_mutex_lock(&pool.birth), atomic_store(&pool.births, 1);
+        status = cache->order ? tempolemon_on_alloc_dirty(&mine->cpu, number, cache->order, &unit)
+                              : tempolemon_on_alloc(&mine->cpu, number, 0, &unit);
+        if (status == TEMPOLEMON_DONE) page_at((uint32_t)unit.number)->tag = tag_of(cache, key) | 1;
+        if (cache->order) atomic_store(&pool.births, 0), pthread_mutex_unlock(&pool.birth);
+    } while (status == NO_FRAMES && is_urgent && !tempolemon_on_reclaim(&mine->cpu, TOP, cache->frames, &unit));
+    if (status == TEMPOLEMON_DONE && !cache->order) serve(tempolemon_on_dirty, mine, (uint32_t)unit.number);
+    if (status == TEMPOLEMON_DONE) count_pin(mine, cache, 1);
+    leave(mine);
     if (status == TEMPOLEMON_OVER_LIMIT || status == NO_FRAMES) return NULL;
     need(status);
-    if (!cache->order) serve(tempolemon_on_dirty, cache->cpu, (uint32_t)result.number);
-    return &pool.pages[result.number];
-}
-
-/* A page that isn't in the cache, or NULL. */
-static sqlite3_pcache_page *add_page(sqlite3_pcache *cache, uint32_t key, bool is_urgent) {
-    if ((!is_urgent && should_spill(cache)) || !make_room(cache)) return NULL;
-    frame_page *page = allocate(cache, tag_of(cache, key) | 1, is_urgent);
-    if (!page) return NULL;
+    frame_page *page = page_at((uint32_t)unit.number);
     OPEN(page, cache->frames);
-    count_pin(cache, 1);
-    insert(cache, (entry){key, (uint32_t)(page - pool.pages)});
-    page->is_marked = true;
-    page->used = pool.clock += cache->frames;
-    memset(page->extra, 0, EXTRA);
+    insert(cache, (entry){key, (uint32_t)unit.number});
+    cache->misses++;
+    page->lane = 0;
+    page->used = atomic_fetch_add(&pool.clock, cache->frames) + cache->frames;
+    memset(page->extra, 0, pool.stride - sizeof *page);
     return &page->page;
 }
 
 static sqlite3_pcache_page *fetch(sqlite3_pcache *cache, unsigned key, int create) {
-    const entry *it = find(cache, key);
+    const entry *it = find(cache, key, false);
     const uint64_t tag = tag_at(cache, it);
-    frame_page *page = &pool.pages[it->frame];
-    if (tag & 1) return &page->page;
-    if (!tag || !pin(cache, it->frame, tag)) return create ? add_page(cache, key, create == 2) : NULL;
-    /* it takes the lock to note that a page was used, so that isn't noted again before many frames are allocated */
-    const uint32_t now = pool.clock;
-    if (now - page->used >= pool.budget / 16) serve(tempolemon_on_touch, cache->cpu, it->frame), page->used = now;
-    return &page->page;
+    if (create == 1 && !(tag & 1) && is_crowded(cache)) return NULL; /* also a hit: it would be a pin more */
+    const bool is_hit = tag & 1 || (tag && pin(cache, it->frame, tag));
+    cache->hits += is_hit;
+    if (is_hit) return &page_at(it->frame)->page;
+    if (!create || (create == 1 && cache->pinned + cache->pinned / 8 >= cache->size)) return NULL;
+    return add_page(cache, key, create == 2);
 }
 
-static void unpin(sqlite3_pcache *cache, sqlite3_pcache_page *page, int is_discarded) {
-    const frame_page *it = (const frame_page *)page;
-    end_pin(cache, (uint32_t)(it - pool.pages), is_discarded ? 0 : it->tag - 1);
-}
-
+/* It can't fail: in a table without a free entry there is one whose page is gone. */
 static void rekey(sqlite3_pcache *cache, sqlite3_pcache_page *page, unsigned from, unsigned to) {
     (void)from;
     frame_page *it = (frame_page *)page;
-    drop(cache, find(cache, to));
-    if (!make_room(cache)) need(TEMPOLEMON_NO_MEMORY);
-    insert(cache, (entry){to, (uint32_t)(it - pool.pages)});
+    drop(cache, find(cache, to, false));
     it->tag = tag_of(cache, to) | 1;
+    insert(cache, (entry){to, frame_of(it)});
 }
 
-static void truncate_cache(sqlite3_pcache *cache, unsigned limit) {
-    if (limit > cache->greatest) return; /* so it is after most transactions */
-    cache->greatest = limit - 1;
-    for (uint32_t at = 0; at <= cache->mask; at++)
-        if (cache->table[at].key >= limit) drop(cache, &cache->table[at]);
+/* Drops the pages from this key on, or of these what isn't pinned if `spared` is 1. */
+static void drop_from(sqlite3_pcache *cache, uint32_t first, uint64_t spared) {
+    for (const entry *it = cache->table; it <= &cache->table[cache->mask]; it++)
+        if (it->key >= first && !(tag_at(cache, it) & spared)) drop(cache, it);
 }
-
-static void set_size(sqlite3_pcache *cache, int pages) {
-    cache->size = pages > 0 ? (uint32_t)pages : 0;
-    tempolemon_result result;
-    const uint64_t high = (uint64_t)cache->size * cache->frames;
-    if (cache->is_purgeable) need(tempolemon_on_set_high(cache->cpu, cache->number, high, &result));
+static void truncate_cache(sqlite3_pcache *cache, unsigned limit) { /* after most transactions nothing is above it */
+    if (limit <= cache->greatest) drop_from(cache, limit, 0), cache->greatest = limit - 1;
 }
-
-static int count_pages(sqlite3_pcache *cache) { return (int)cache->count; }
-static void shrink(sqlite3_pcache *cache) { reclaim(cache->cpu, cache->number, pool.frames); }
+static void shrink(sqlite3_pcache *cache) { drop_from(cache, 1, 1); }
+static void set_size(sqlite3_pcache *cache, int pages) { cache->size = pages > 0 ? (uint32_t)pages : 0; }
+/* SQLite doesn't write a changed page to the file unless this is above some size, in VACUUM the cache_size. */
+static int count_pages(sqlite3_pcache *cache) { return (int)(cache->entries + (is_crowded(cache) ? cache->size : 0)); }
 
 static sqlite3_pcache *create(int page_size, int extra, int is_purgeable) {
-    sqlite3_pcache *cache = calloc(1, sizeof *cache);
-    entry *table = calloc(64, sizeof *table);
-    char path[80];
+    (void)extra, (void)is_purgeable; /* SQLite said before how many extra bytes there are at most */
+    entry *table = calloc(FIRST_TABLE, sizeof *table);
     pthread_mutex_lock(&pool.mutex);
-    snprintf(path, sizeof path, "%s/c%u", tenant_path, ++pool.serial);
-    const uint32_t tenant = cache && table && extra <= EXTRA ? group_at(tenant_path) : 0, number = tenant ? group_at(path) : 0;
-    if (number) count_cache(number, &pool.groups[tenant], 1);
+    const uint32_t tenant = table ? group_at(tenant_path) : 0, number = pool.spare ? pool.spare : pool.used + 1;
+    sqlite3_pcache *cache = tenant && number < MOST_CACHES ? &pool.caches[number] : NULL;
+    if (cache) {
+        pool.used += !pool.spare;
+        pool.spare = cache->spare;
+        pool.live++;
+        *cache = (sqlite3_pcache){&pool.groups[tenant], table, FIRST_TABLE - 1, .number = number};
+        for (cache->frames = 1; (int)cache->frames * FRAME < page_size; cache->frames *= 2) cache->order++;
+    }
     pthread_mutex_unlock(&pool.mutex);
-    if (!number) return free(table), free(cache), NULL;
-    *cache = (sqlite3_pcache){&pool.cpus[number], &pool.groups[tenant], table, .mask = 63, .number = number, .frames = 1};
-    cache->is_purgeable = is_purgeable;
-    for (; (int)cache->frames * FRAME < page_size; cache->frames *= 2) cache->order++;
+    if (!cache) free(table);
     return cache;
 }
 
 static void destroy(sqlite3_pcache *cache) {
-    tempolemon_result result;
     truncate_cache(cache, 1);
-    cache->tenant->pinned -= cache->counted;
-    pool.groups[TOP].pinned -= cache->counted;
-    pthread_mutex_lock(&pool.mutex);
-    char *path = pool.groups[cache->number].path;
-    while (tempolemon_on_rmdir(&pool.cpus[0], path, strlen(path), &result) != TEMPOLEMON_DONE)
-        sched_yield(); /* another cache's hit has a reference at the moment */
-    *path = 0;
-    count_cache(cache->number, cache->tenant, -1);
-    pthread_mutex_unlock(&pool.mutex);
     free(cache->table);
-    free(cache);
-}
-
-static int start(void *unused) {
-    (void)unused;
-    tempolemon_result result;
-    pool.frames = 2 * pool.budget;
-    const uint32_t wanted = pool.budget / 4096, batch = wanted < 1 ? 1 : wanted > 32 ? 32 : wanted;
-    const tempolemon_sizes sizes = {.frames = pool.frames, .cpus = GROUPS, .batch = batch, .high = 2 * batch, .stock = batch,
-                                    .reclaim_batch = RECLAIM_BATCH, .no_kill = 1, .fair = 1};
-    if (tempolemon_zone_boot(&sizes, &pool.zone) != TEMPOLEMON_DONE) return SQLITE_NOMEM;
-    const size_t size = FRAME + (size_t)pool.frames * (FRAME + sizeof *pool.pages); /* SQLite may read beyond a page */
-    pool.arena = mmap(NULL, size, PROT_READ | PROT_WRITE, MAP_PRIVATE | MAP_ANONYMOUS | MAP_NORESERVE, -1, 0);
-    if (pool.arena == MAP_FAILED) return SQLITE_NOMEM;
-    pool.pages = (frame_page *)(pool.arena + FRAME + (size_t)pool.frames * FRAME);
-    for (uint32_t at = 0; at < pool.frames; at++) {
-        pool.pages[at].page = (sqlite3_pcache_page){pool.arena + (size_t)at * FRAME, pool.pages[at].extra};
-        SHUT(&pool.pages[at], 1u);
-    }
-    for (uint32_t at = 0; at < GROUPS; at++) need(tempolemon_take(&pool.zone, at + 1, &pool.cpus[at]));
-    (void)group_at("/db"); /* TOP, the first */
-    pool.groups[TOP].limit = pool.budget;
-    need(tempolemon_on_set_max(&pool.cpus[0], TOP, pool.budget, &result));
-    return SQLITE_OK;
+    pthread_mutex_lock(&pool.mutex);
+    cache->tenant = NULL;
+    cache->spare = pool.spare;
+    pool.spare = cache->number;
+    pool.live--;
+    pthread_mutex_unlock(&pool.mutex);
 }
 
 static void stop(void *unused) {
     (void)unused;
-    tempolemon_report report;
-    for (uint32_t at = 0; at < GROUPS; at++) need(tempolemon_return(&pool.cpus[at]));
-    need(tempolemon_zone_end(&pool.zone, &report));
+    tempolemon_report report = {0};
+    if (pool.live) return; /* connections are open, and may go on */
+    for (lane *it = &pool.lanes[1]; it <= &pool.lanes[LANES]; it++)
+        if (it->cpu.part.is_live) need(tempolemon_return(&it->cpu));
+    if (pool.zone.is_live) need(tempolemon_zone_end(&pool.zone, &report));
     if (report.held || report.free != report.frames) need(UINT8_MAX); /* a frame is missing */
-    for (uint32_t at = 0; at < pool.frames; at++) OPEN(&pool.pages[at], 1u);
-    munmap(pool.arena, (size_t)((unsigned char *)&pool.pages[pool.frames] - pool.arena));
+    for (uint32_t at = 0; at < pool.frames; at++) OPEN(page_at(at), 1u);
+    munmap(pool.arena, pool.size);
     memset(pool.groups, 0, sizeof pool.groups);
+    pool.used = pool.spare = 0;
+}
+
+static int start(void *unused) {
+    tempolemon_result result;
+    if (pool.live) return SQLITE_OK; /* connections were open at the last stop */
+    if (pool.zone.is_live) stop(unused);
+    pool.frames = 2 * pool.budget;
+    pool.size = FRAME + pool.frames * (FRAME + pool.stride) + MOST_CACHES * sizeof *pool.caches;
+    pool.arena = mmap(NULL, pool.size, PROT_READ | PROT_WRITE, MAP_PRIVATE | MAP_ANONYMOUS | MAP_NORESERVE, -1, 0);
+    if (pool.arena == MAP_FAILED) return SQLITE_NOMEM;
+    pool.pages = pool.arena + FRAME + (size_t)pool.frames * FRAME; /* SQLite may read beyond a page */
+    pool.caches = (sqlite3_pcache *)(pool.pages + pool.frames * pool.stride);
+    for (uint32_t at = 0; at < pool.frames; at++) {
+        page_at(at)->page = (sqlite3_pcache_page){pool.arena + (size_t)at * FRAME, page_at(at)->extra};
+        SHUT(page_at(at), 1u);
+    }
+    const uint32_t wanted = pool.budget / 4096, batch = wanted < 1 ? 1 : wanted > 32 ? 32 : wanted;
+    const tempolemon_sizes sizes = {.frames = pool.frames, .cpus = LANES, .batch = batch, .high = 2 * batch, .stock = batch,
+                                    .reclaim_batch = RECLAIM_BATCH, .no_kill = 1, .fair = 1};
+    uint8_t status = tempolemon_zone_boot(&sizes, &pool.zone);
+    for (uint32_t at = 1; at <= LANES && status == TEMPOLEMON_DONE; at++) {
+        pool.lanes[at] = (lane){.mutex = PTHREAD_MUTEX_INITIALIZER};
+        status = tempolemon_take(&pool.zone, at, &pool.lanes[at].cpu);
+    }
+    if (status != TEMPOLEMON_DONE) return stop(unused), SQLITE_NOMEM;
+    (void)(group_at("/db") && group_at("/db/main")); /* TOP is the first */
+    pool.groups[TOP].limit = (int32_t)pool.budget;
+    need(tempolemon_on_set_max(&pool.lanes[1].cpu, TOP, pool.budget, &result));
+    return SQLITE_OK;
 }
 
 const char *tempolemon_pcache_install(size_t bytes) {
     static const sqlite3_pcache_methods2 methods = {1,     NULL,  start,          stop,    create, set_size, count_pages, fetch,
                                                     unpin, rekey, truncate_cache, destroy, shrink};
+    int extra = 256;
     if (bytes / FRAME < LEAST_BUDGET || bytes / FRAME > MOST_BUDGET) return "a budget is 1M to 2G";
+    if (pool.live) return "a connection is open";
+    if (sqlite3_config(SQLITE_CONFIG_PCACHE2, &methods) != SQLITE_OK) return "SQLite is initialized already";
+    sqlite3_config(SQLITE_CONFIG_PCACHE_HDRSZ, &extra); /* at least what `create` is told */
+    pool.stride = sizeof(frame_page) + ((size_t)extra + 7) / 8 * 8;
     pool.budget = (uint32_t)(bytes / FRAME);
-    return sqlite3_config(SQLITE_CONFIG_PCACHE2, &methods) == SQLITE_OK ? NULL : "SQLite is initialized already";
+    return NULL;
 }
 
 /* Finds or makes a tenant. Sets its limit; or if that is 0, this thread opens databases for it. */
@@ -394,32 +383,46 @@ static const char *set_tenant(const char *name, uint32_t limit) {
     pthread_mutex_lock(&pool.mutex);
     const uint32_t number = group_at(path);
     const char *why = number ? NULL : "no group of this name can be made";
-    if (number && limit && pool.groups[number].pinned > limit) why = "its databases have pinned more than that";
+    if (number && limit && pool.groups[number].pinned > (int32_t)limit) why = "its databases have pinned more than that";
     if (!why && limit) {
-        pool.groups[number].limit = limit;
-        need(tempolemon_on_set_max(&pool.cpus[0], number, limit, &result));
-    }
-    if (number && !limit) strcpy(tenant_path, path);
+        lane *mine = enter(0);
+        pool.groups[number].limit = (int32_t)limit;
+        need(tempolemon_on_set_max(&mine->cpu, number, limit, &result));
+        leave(mine);
+    } else if (!why) strcpy(tenant_path, path);
     pthread_mutex_unlock(&pool.mutex);
     return why;
 }
-
 const char *tempolemon_pcache_tenant(const char *name) { return set_tenant(name, 0); }
 const char *tempolemon_pcache_limit(const char *name, size_t bytes) {
     if (bytes / FRAME < LEAST_LIMIT) return "a limit is at least 256K";
     return set_tenant(name, bytes / FRAME < NO_LIMIT ? (uint32_t)(bytes / FRAME) : NO_LIMIT);
 }
 
+/* Writes the sums of the counts of the caches at or below this path: how many there are. */
+static uint32_t read_counts(const char *path, char *text) {
+    unsigned long long caches = 0, pages = 0, pinned = 0, hits = 0, misses = 0;
+    for (const sqlite3_pcache *it = &pool.caches[1]; it <= &pool.caches[pool.used]; it++) {
+        char own[96] = "";
+        if (it->tenant) snprintf(own, sizeof own, "%s/c%u/", it->tenant->path, it->number);
+        if (strncmp(own, path, strlen(path)) || own[strlen(path)] != '/') continue;
+        caches++, pages += it->entries, pinned += it->pinned, hits += it->hits, misses += it->misses;
+    }
+    snprintf(text, TEMPOLEMON_PCACHE_TEXT, "caches %llu\npages %llu\npinned %llu\nhits %llu\nmisses %llu\n", caches, pages,
+             pinned, hits, misses);
+    return (uint32_t)caches;
+}
+
 const char *tempolemon_pcache_read(const char *of, const char *file, char text[TEMPOLEMON_PCACHE_TEXT]) {
     char path[64];
-    tempolemon_result result;
-    uint8_t status = TEMPOLEMON_NOT_LIVE;
+    tempolemon_result result = {0};
     snprintf(path, sizeof path, "/db%s%s", *of ? "/" : "", of);
     pthread_mutex_lock(&pool.mutex);
-    if (pool.zone.is_live)
-        status = tempolemon_on_read(&pool.cpus[0], path, strlen(path), file, strlen(file), text, 256, &result);
+    lane *mine = enter(0);
+    bool is_read = pool.zone.is_live && !strcmp(file, "cache.stat") && read_counts(path, text);
+    if (!is_read && !tempolemon_on_read(&mine->cpu, path, strlen(path), file, strlen(file), text, 256, &result))
+        is_read = true, text[result.number] = 0;
+    leave(mine);
     pthread_mutex_unlock(&pool.mutex);
-    if (status != TEMPOLEMON_DONE) return "no group or file of this name";
-    text[result.number] = 0;
-    return NULL;
+    return is_read ? NULL : "no group or file of this name";
 }
