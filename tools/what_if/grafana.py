@@ -1,15 +1,20 @@
 """CSV files of Grafana: a column for each series, or a row for each value."""
+from __future__ import annotations
+
 import csv
 import re
+from typing import Dict, List, Optional, Tuple
 
-from .amounts import Fault
+from .amounts import Fault, Note
 from .files import open_text
 from .series import Series, kind_of, read_number, read_time
 
 TIMES, VALUES, NAMES = ("time", "timestamp"), ("value",), ("metric", "name", "__name__", "series")
 
+Rows = List[List[str]]
 
-def labels_of(title):
+
+def labels_of(title: str) -> Tuple[Optional[str], Dict[str, str]]:
     """The name of a metric and the labels in a column's title; else the title is a path."""
     found = re.fullmatch(r"\s*([\w:]*)\s*\{(.*)\}\s*", title)
     if not found:
@@ -17,31 +22,40 @@ def labels_of(title):
     return found[1] or None, dict(re.findall(r'(\w+)="?((?:[^",\\]|\\.)*)"?', found[2]))
 
 
-def wide(rows, titles, given):
+def wide(rows: Rows, titles: List[str], given: Optional[str]) -> List[Series]:
     """The series of columns. A cell without a number has no value."""
+    found = []
     for at, title in enumerate(titles[1:], 1):
         name, labels = labels_of(title)
-        cells = [(read_time(row[0]), read_number(row[at])) for row in rows]
-        yield Series(kind_of(name, given), labels, [(time, number) for time, number in cells if number is not None])
+        series = Series(kind_of(name, given), labels)
+        for row in rows:
+            number = read_number(row[at])
+            if number is not None:
+                series.add(read_time(row[0]), number)
+        found.append(series)
+    return found
 
 
-def tall(rows, titles, given):
+def tall(rows: Rows, titles: List[str], given: Optional[str]) -> List[Series]:
     """The series of rows with a time and a value each. The other columns are labels."""
     names = [title.lower() for title in titles]
     time, value = (next(at for at, name in enumerate(names) if name in known) for known in (TIMES, VALUES))
-    found = {}
+    found: Dict[Tuple[object, ...], Series] = {}
     for row in rows:
         labels = {name: cell for at, (name, cell) in enumerate(zip(names, row)) if at not in (time, value)}
-        metric = next((labels.pop(name) for name in NAMES if name in labels), None)
-        metric, more = labels_of(metric) if metric and "{" in metric else (metric, {})
+        title = next((labels.pop(name) for name in NAMES if name in labels), None)
+        metric, more = labels_of(title) if title and "{" in title else (title, {})
+        labels.update(more)
         number = read_number(row[value])
         if number is not None:
-            found.setdefault((metric, tuple({**labels, **more}.items())), []).append((read_time(row[time]), number))
-    for (metric, labels), values in found.items():
-        yield Series(kind_of(metric, given), dict(labels), values)
+            key = (metric, *labels.items())
+            if key not in found:
+                found[key] = Series(kind_of(metric, given), labels)
+            found[key].add(read_time(row[time]), number)
+    return [*found.values()]
 
 
-def read(path, given):
+def read(path: str, given: Optional[str], _: Note) -> List[Series]:
     """The series of a file."""
     with open_text(path) as lines:
         first = lines.readline()
@@ -58,4 +72,4 @@ def read(path, given):
     for number, row in enumerate(rows, 3 if first.startswith("sep=") else 2):
         if len(row) != len(titles):
             raise Fault(f"{path}: line {number}: {len(row)} values, and there are {len(titles)} columns")
-    yield from (tall if any(name in VALUES for name in names) else wide)(rows, titles, given)
+    return (tall if any(name in VALUES for name in names) else wide)(rows, titles, given)

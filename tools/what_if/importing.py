@@ -1,59 +1,68 @@
 """Makes a usage of what other tools recorded."""
+from __future__ import annotations
+
+import argparse
 import datetime
+from array import array
+from dataclasses import dataclass, replace
+from typing import Callable, Dict, Iterator, List, Optional, Tuple
 
-from . import cgroupfs, grafana, prometheus, rows
-from .amounts import Fault, note, read_amount
+from . import cgroupfs, grafana, prometheus, rows, signs
+from .amounts import Fault, Note, read_amount
+from .joining import join
 from .prepare import filled, not_cumulative, read_names, renamed
-from .series import KIND_NAMES, usage_of
-from .usage import DEFAULTS, HEADER, groups_with, setting_word
-
-# The reader of each format, and whether a value counts all groups below.
-FORMATS = {"prometheus": (prometheus.read, True), "grafana": (grafana.read, True), "cgroupfs": (cgroupfs.read, True),
-           "rows": (rows.read, False)}
+from .series import KIND_NAMES, Series
+from .usage_csv import usage_lines
 
 
-def split_kind(word):
+@dataclass(frozen=True)
+class Format:
+    """The reader of a format, and whether a value counts all groups below."""
+    read: Callable[[str, Optional[str], Note], List[Series]]
+    is_cumulative: bool
+
+
+FORMATS: Dict[str, Format] = {"prometheus": Format(prometheus.read, True), "grafana": Format(grafana.read, True),
+                              "cgroupfs": Format(cgroupfs.read, True), "rows": Format(rows.read, False)}
+
+
+def split_kind(word: str) -> Tuple[Optional[str], str]:
     """The kind and the file of a word KIND=FILE."""
     kind, _, path = word.partition("=")
     return (kind, path) if path and kind in KIND_NAMES else (None, word)
 
 
-def usage_lines(usage):
-    """The lines of a usage."""
-    kinds = [kind for kind in DEFAULTS if kind == "max" or groups_with(usage, kind)]
-    yield ",".join([*HEADER[:4], *kinds])
-    for seconds, amounts, settings in usage.samples:
-        found = {**amounts, **({"/": amounts.get("/", (0, 0))} if usage.host else {})}
-        for group, (anon, file) in sorted(found.items()):
-            values = {kind: settings[kind].get(group, DEFAULTS[kind]) for kind in kinds}
-            values.update({"max": usage.host} if group == "/" else {})
-            yield ",".join([f"{seconds:.3f},{group},{anon},{file}", *map(setting_word, values.values())])
-
-
-def import_lines(options):
-    """The lines of the usage of some files."""
-    read, is_cumulative = FORMATS[options.format]
-    rename = renamed(read_names(options.names)) if options.names else str
-    series = []
+def read_series(options: argparse.Namespace, note: Note) -> List[Series]:
+    """The series of all files, with the names of groups that are wanted."""
+    series: List[Series] = []
     for kind, path in map(split_kind, options.files):
         try:
-            series += read(path, kind)
+            series += FORMATS[options.format].read(path, kind, note)
         except Fault as fault:
             raise Fault(str(fault) if str(fault).startswith(path) else f"{path}: {fault}") from None
-    series = [one._replace(labels={**one.labels, "path": rename(one.labels["path"])}) if "path" in one.labels else one
-              for one in series]
-    usage = usage_of(series)
-    begin = usage.samples[0].seconds
-    usage = filled(usage._replace(samples=[one._replace(seconds=one.seconds - begin) for one in usage.samples]), None)
-    usage = not_cumulative(usage) if is_cumulative else usage
-    usage = usage._replace(host=read_amount(options.host) if options.host else usage.host)
-    begin = datetime.datetime.fromtimestamp(begin, datetime.timezone.utc)
-    note(f"{len(usage.groups) - 1} groups, {len(usage.samples)} samples; 0 s is {begin:%Y-%m-%dT%H:%M:%SZ}"
+    rename = renamed(read_names(options.names))
+    for one in series:
+        if "path" in one.labels:
+            one.labels = {**one.labels, "path": rename(one.labels["path"])}
+    return series
+
+
+def import_lines(options: argparse.Namespace, note: Note) -> Iterator[str]:
+    """The lines of the usage of some files."""
+    usage = join(read_series(options, note), note)
+    begin = usage.times[0]
+    usage = filled(replace(usage, times=array("d", [time - begin for time in usage.times])), None, note)
+    usage = not_cumulative(usage, note) if FORMATS[options.format].is_cumulative else usage
+    usage = replace(usage, host=read_amount(options.host) if options.host else usage.host)
+    for sign in signs.holes(usage):
+        note(sign)
+    day = datetime.datetime.fromtimestamp(begin, datetime.timezone.utc)
+    note(f"{len(usage.tracks) - 1} groups, {len(usage.times)} samples; 0 s is {day:%Y-%m-%dT%H:%M:%SZ}"
          f"{'' if usage.host else '; the host has no memory: give --host SIZE here or to run'}")
     return usage_lines(usage)
 
 
-def add_options(parser):
+def add_options(parser: argparse.ArgumentParser) -> None:
     """The options of the word `import`."""
     parser.add_argument("format", choices=FORMATS, help="what the files are: " + ", ".join(FORMATS))
     parser.add_argument("files", metavar="[KIND=]FILE", nargs="+",

@@ -1,71 +1,88 @@
 """The least limits with which a recorded usage survives, or has few kills, and with which it keeps its file pages."""
-import json
+from __future__ import annotations
+
+import multiprocessing
 import sys
-from collections import Counter, namedtuple
+from collections import Counter
+from dataclasses import dataclass, replace
+from typing import Callable, Dict, Iterable, List, Optional, Tuple
 
-from .amounts import Fault, amount_text, path_text
-from .kubernetes import patch_lines
+from . import orders
 from .paths import path_up
-from .replay import Replay, start
-from .report import table
-from .systemd import drop_in_lines
-from .usage import greatest_wanted, only_below, with_settings
-
-COLUMNS = ["group", "wanted", "survives", "keeps file"]
-
-# A group's least limits in frames: with which nothing dies, with at most the allowed kills (None: none are), and with
-# which its file pages are kept too (None: no limit keeps them).
-Least = namedtuple("Least", "group wanted survives few_kills keeps")
-# What is sought: the share of file pages that may be reclaimed, in percent; kills of each limit, in each so many seconds
-# (None: in the record); and after how many seconds what was killed comes back.
-Sought = namedtuple("Sought", "percent kills per restart")
+from .replay import How, Replay, played
+from .usage import Usage, greatest_wanted, only_below, with_settings
 
 
-def played(memcg, usage, is_enough, restart=None, flags=()):
-    """The replay of a usage, up to its end or to the first sample after which it isn't good enough."""
-    with start(memcg, usage) as session:
-        replay = Replay(session, usage, flags, restart=restart)
-        for sample in usage.samples:
-            replay.play(sample)
-            if not is_enough(replay):
-                break
-        return replay
+@dataclass(frozen=True)
+class Least:
+    """A group's least limits in frames: with which nothing dies, with at most the allowed kills (None: none are), and with
+    which its file pages are kept too (None: no limit keeps them)."""
+    group: str
+    wanted: int
+    survives: int
+    few_kills: Optional[int]
+    keeps: Optional[int]
 
 
-def survives(replay):
-    """Whether nothing died."""
-    return not replay.deaths
+@dataclass(frozen=True)
+class Sought:
+    """What is sought: the share of file pages that may be reclaimed, in percent (None: any); and kills of each limit, in each
+    so many seconds (None: in the record)."""
+    percent: Optional[float] = None
+    kills: Optional[int] = None
+    per: Optional[float] = None
 
 
-def reclaimed_share(replay, group):
+@dataclass(frozen=True)
+class Found:
+    """The least limits of each group alone, limits with which all together are good enough, which of these were raised, and
+    what the host lacks of what the groups have to have, all in frames; and what the groups in the reversed order do, if the
+    limits don't suffice then."""
+    least: List[Least]
+    limits: Dict[str, int]
+    raised: List[str]
+    lacks: int
+    differs: Optional[orders.Difference]
+
+
+def survives(replay: Replay) -> bool:
+    """Whether nothing died, and was refused nothing."""
+    return not replay.deaths and not replay.refused
+
+
+def reclaimed_share(replay: Replay, path: str) -> float:
     """How much of what a group and those below it read of files was reclaimed, in percent."""
-    group = replay.groups[group]
+    group = replay.groups[path]
     return 100 * group.reclaimed / max(1, group.read)
 
 
-def needed(usage):
+def needed(usage: Usage) -> Dict[str, int]:
     """Of each group the most anonymous frames below it, counted with the frame that is asked for: without memory.min a
     limit reclaims all else before it kills, so with one frame less something dies."""
-    have, sums, most = {}, dict.fromkeys(usage.groups, 0), dict.fromkeys(usage.groups, 0)
-    for sample in usage.samples:
+    have = dict.fromkeys(usage.tracks, (0, 0))
+    sums, most = dict.fromkeys(usage.tracks, 0), dict.fromkeys(usage.tracks, 0)
+    ups = {path: [*path_up(path)] for path in usage.tracks}
+    for at in range(len(usage.times)):
         grown = []
-        for group in usage.groups:
-            anon, file = sample.amounts.get(group, (0, 0))
-            before = have.get(group, (0, 0))
-            have[group] = anon, file
-            if anon < before[0]:
-                for above in path_up(group):
-                    sums[above] += anon - before[0]
-            if anon > before[0] or file > before[1]:
-                grown.append((group, max(0, anon - before[0]), file > before[1]))
-        for group, more, is_read in grown:
-            for above in path_up(group):
+        for path, track in usage.tracks.items():
+            anon, file = max(0, track.anon[at]), max(0, track.file[at])
+            before_anon, before_file = have[path]
+            if (anon, file) == (before_anon, before_file):
+                continue
+            have[path] = anon, file
+            if anon < before_anon:
+                for above in ups[path]:
+                    sums[above] += anon - before_anon
+            if anon > before_anon or file > before_file:
+                grown.append((path, max(0, anon - before_anon), file > before_file))
+        for path, more, is_read in grown:
+            for above in ups[path]:
                 sums[above] += more
                 most[above] = max(most[above], sums[above] + is_read)
     return most
 
 
-def bisect(too_little, enough, holds):
+def bisect(too_little: int, enough: int, holds: Callable[[int], bool]) -> int:
     """The least amount that holds, between one that doesn't and one that does."""
     while enough - too_little > 1:
         middle = (enough + too_little) // 2
@@ -77,80 +94,101 @@ def bisect(too_little, enough, holds):
 
 
 class Search:
-    """The search for limits of a usage in frames."""
+    """The search for limits of a usage in frames, without any limit but that of the host."""
 
-    def __init__(self, memcg, usage, sought):
-        self.memcg, self.sought = memcg, sought
-        self.usage = usage  # without any limit but that of the host
-        self.wanted, self.needed = greatest_wanted(self.usage), needed(self.usage)
-        self.base = played(memcg, self.usage, survives)
-        if self.base.deaths:
-            raise Fault(f"the host's memory alone kills {self.base.deaths[0].group.path}: a greater --host is due")
+    def __init__(self, usage: Usage, how: How, sought: Sought) -> None:
+        self.how, self.sought = how, sought
+        self.wanted, self.needed = greatest_wanted(usage), needed(usage)
+        host = usage.host or 0
+        self.base = played(usage, how, survives)
+        # A host that kills without any other limit is too small for all, and each is sought on one that is large enough.
+        self.lacks = max(1, self.needed["/"] - host) if self.base.deaths else 0
+        if self.lacks:
+            usage = replace(usage, host=max(host + self.lacks, self.wanted["/"]))
+            self.base = played(usage, how, survives)
+        self.usage = usage
         # While the host always has room, groups elsewhere don't matter to a limit.
         self.is_alone = self.base.groups["/"].times_without_room == 0
 
-    def has_few_kills(self, replay):
+    def has_few_kills(self, replay: Replay) -> bool:
         """Whether each limit killed at most as often as is allowed."""
-        begin, per = self.usage.samples[0].seconds, self.sought.per
+        begin, per = self.usage.times[0], self.sought.per
         kills = Counter((death.limit.path, (death.seconds - begin) // per if per else 0) for death in replay.deaths)
-        return max(kills.values(), default=0) <= self.sought.kills
+        return max(kills.values(), default=0) <= (self.sought.kills or 0)
 
-    def keeps(self, replay, group):
+    def keeps(self, replay: Replay, path: str) -> bool:
         """Whether nothing died, and not too much of the file pages below the group was reclaimed."""
-        return survives(replay) and reclaimed_share(replay, group) <= self.sought.percent
+        return survives(replay) and reclaimed_share(replay, path) <= (self.sought.percent or 0)
 
-    def holds(self, group, limit, is_enough, is_hopeful=survives):
+    def holds(self, path: str, limit: int, is_enough: Callable[[Replay], bool],
+              is_hopeful: Callable[[Replay], bool] = survives) -> bool:
         """Whether a usage is good enough to its end with a limit at one group."""
-        usage = only_below(self.usage, group) if self.is_alone else self.usage
-        return is_enough(played(self.memcg, with_settings(usage, {"max": {group: limit}}), is_hopeful, self.sought.restart))
+        usage = only_below(self.usage, path) if self.is_alone else self.usage
+        return is_enough(played(with_settings(usage, {"max": {path: limit}}), self.how, is_hopeful))
 
-    def survival(self, group):
+    def survival(self, path: str) -> int:
         """The least limit with which nothing dies: what is needed, as two plays show, or else it is sought."""
-        def holds(limit):
-            return self.holds(group, limit, survives)
+        def holds(limit: int) -> bool:
+            return self.holds(path, limit, survives)
 
-        guess = self.needed[group]
+        guess = self.needed[path]
         if not holds(guess):
-            return bisect(guess, self.wanted[group], holds)
+            return bisect(guess, self.wanted[path], holds)
         return guess if guess == 0 or not holds(guess - 1) else bisect(-1, guess - 1, holds)
 
-    def keeping(self, group, fewest):
+    def keeping(self, path: str, fewest: int) -> Optional[int]:
         """The least limit that keeps the file pages too; None if there is none. Without a limit no usage was above the
         peak, so with the peak as the limit there is always room, and with less once there is none."""
-        def holds(limit):
-            return self.holds(group, limit, lambda replay: self.keeps(replay, group))
+        def holds(limit: int) -> bool:
+            return self.holds(path, limit, lambda replay: self.keeps(replay, path))
 
-        if self.is_alone and self.sought.percent == 0:
-            return max(fewest, self.base.groups[group].peak)
-        if not holds(self.wanted[group]):
+        if self.is_alone and not self.sought.percent:
+            return max(fewest, self.base.groups[path].peak)
+        if not holds(self.wanted[path]):
             return None
-        return fewest if holds(fewest) else bisect(fewest, self.wanted[group], holds)
+        return fewest if holds(fewest) else bisect(fewest, self.wanted[path], holds)
 
-    def least(self, group):
+    def least(self, path: str) -> Least:
         """The least limits of a group, while no other has one."""
-        fewest, few = self.survival(group), None
+        fewest, few = self.survival(path), None
         if self.sought.kills is not None:
-            few = bisect(-1, fewest, lambda limit: self.holds(group, limit, self.has_few_kills, self.has_few_kills))
-        return Least(group, self.wanted[group], fewest, few, self.keeping(group, fewest))
+            few = bisect(-1, fewest, lambda limit: self.holds(path, limit, self.has_few_kills, self.has_few_kills))
+        return Least(path, self.wanted[path], fewest, few, self.keeping(path, fewest))
 
-    def together(self, limits, is_kept):
-        """The limits, raised until all of them together are good enough."""
+    def limit_of(self, least: Least) -> Optional[int]:
+        """The one of a group's least limits that is sought."""
+        if self.sought.percent is not None:
+            return least.keeps
+        return least.survives if least.few_kills is None else least.few_kills
+
+    def is_enough(self, replay: Replay, limits: Iterable[str]) -> bool:
+        """Whether the limits of these groups are good enough."""
+        if self.sought.percent is not None:
+            return all(self.keeps(replay, path) for path in limits)
+        return survives(replay) if self.sought.kills is None else self.has_few_kills(replay)
+
+    def together(self, limits: Dict[str, int]) -> Tuple[Dict[str, int], Replay]:
+        """The limits, raised until all of them together are good enough, and the replay with them."""
         hopeful = survives if self.sought.kills is None else self.has_few_kills
-
-        def is_enough(replay):
-            return all(self.keeps(replay, group) for group in limits) if is_kept else hopeful(replay)
-
         while True:
-            replay = played(self.memcg, with_settings(self.usage, {"max": limits}), hopeful, self.sought.restart)
-            short = [group for group in limits if replay.groups[group].times_without_room
-                     and limits[group] < self.wanted[group]]
-            if is_enough(replay) or not short:
-                return limits
-            raised = {group: limits[group] + max(1, limits[group] // 64) for group in short}
-            limits = {**limits, **{group: min(limit, self.wanted[group]) for group, limit in raised.items()}}
+            replay = played(with_settings(self.usage, {"max": {**limits}}), self.how, hopeful)
+            short = [path for path in limits if replay.groups[path].times_without_room and limits[path] < self.wanted[path]]
+            if self.is_enough(replay, limits) or not short:
+                return limits, replay
+            raised = {path: limits[path] + max(1, limits[path] // 64) for path in short}
+            limits = {**limits, **{path: min(limit, self.wanted[path]) for path, limit in raised.items()}}
 
 
-def show_progress(done, count):
+# Of a process that seeks for groups. What is to be sought is there before it is parted from the first one.
+SEARCHES: List[Search] = []
+
+
+def least_of(path: str) -> Least:
+    """The least limits of a group, in a process of its own."""
+    return SEARCHES[0].least(path)
+
+
+def show_progress(done: int, count: int) -> None:
     """A bar on a terminal."""
     if sys.stderr.isatty():
         bar = "#" * (40 * done // count)
@@ -159,56 +197,28 @@ def show_progress(done, count):
         sys.stderr.flush()
 
 
-def find(memcg, usage, groups, sought, is_kept):
+def each_least(search: Search, groups: List[str], jobs: int) -> Iterable[Least]:
+    """The least limits of each of these groups, of so many at a time."""
+    SEARCHES[:] = [search]
+    try:
+        pool = multiprocessing.get_context("fork").Pool(min(jobs, len(groups))) if jobs > 1 and len(groups) > 1 else None
+    except OSError:  # a host without /dev/shm has no semaphores
+        pool = None
+    if pool is None:
+        yield from map(search.least, groups)
+        return
+    with pool:
+        yield from pool.imap(least_of, groups)
+
+
+def find(usage: Usage, how: How, groups: List[str], sought: Sought, jobs: int) -> Found:
     """The least limits of each of these groups, and limits with which all together are good enough."""
-    search, found = Search(memcg, usage, sought), []
-    for group in groups:
-        show_progress(len(found), len(groups))
-        found.append(search.least(group))
-    alone = {least.group: least.keeps if is_kept else least.survives if least.few_kills is None else least.few_kills
-             for least in found}
-    alone = {group: limit for group, limit in alone.items() if limit is not None}
-    limits = search.together(alone, is_kept)
-    show_progress(len(groups), len(groups))
-    return found, limits, [group for group in limits if limits[group] > alone[group]]
-
-
-def with_margin(limits, size, percent):
-    """The limits in bytes with a margin, in whole pages."""
-    return {group: limit * size + int(-(-limit * size * percent // 409_600)) * 4096 for group, limit in limits.items()}
-
-
-def least_lines(found, limits, raised, size, few):
-    """The table in comments, and the lines of limits.txt."""
-    columns = [*COLUMNS[:3], *(["few kills"] if few else []), COLUMNS[3]]
-    rows = [[path_text(least.group), *("-" if frames is None else amount_text(frames * size)
-                                       for frames in (least.wanted, least.survives, *few_of(least, few), least.keeps))]
-            for least in found]
-    yield from (f"# {line}" for line in table([columns, *rows]))
-    if raised:
-        yield f"# raised, so that all together are good enough: {', '.join(raised)}"
-    yield from (f"{group} {limit}" for group, limit in limits.items())
-
-
-def few_of(least, few):
-    """The cell of few kills, if there is such a column."""
-    return [least.few_kills] if few else []
-
-
-def json_lines(name, usage, size, found, limits, raised, margin):
-    """The same as one object on one line."""
-    def in_bytes(frames):
-        return None if frames is None else frames * size
-
-    yield json.dumps({
-        "usage": name, "samples": len(usage.samples), "host_bytes": usage.host * size, "frame_bytes": size,
-        "margin_percent": margin, "raised": raised,
-        "groups": [{"group": least.group, "wanted_bytes": in_bytes(least.wanted),
-                    "survives_bytes": in_bytes(least.survives), "few_kills_bytes": in_bytes(least.few_kills),
-                    "keeps_file_bytes": in_bytes(least.keeps), "limit_bytes": limits.get(least.group)}
-                   for least in found]})
-
-
-def lines_for(form, limits):
-    """The limits for another tool."""
-    return patch_lines(limits) if form == "k8s" else drop_in_lines(limits)
+    search, found = Search(usage, how, sought), []
+    for least in each_least(search, groups, jobs):
+        found.append(least)
+        show_progress(len(found), len(groups) + 1)
+    alone = {least.group: limit for least in found for limit in [search.limit_of(least)] if limit is not None}
+    limits, replay = search.together(alone)
+    differs = orders.difference(replay, lambda other: search.is_enough(other, limits))
+    show_progress(1, 1)
+    return Found(found, limits, [path for path in limits if limits[path] > alone[path]], search.lacks, differs)

@@ -1,53 +1,70 @@
 """The least memory.min with which a group keeps its file pages beside the others."""
+from __future__ import annotations
+
 import json
 import math
-from collections import namedtuple
+from dataclasses import dataclass
+from typing import Dict, Iterator, List, Optional
 
 from .amounts import amount_text, path_text
-from .least import bisect, played, reclaimed_share, with_margin
-from .paths import is_below, path_up
-from .report import death_text, first_deaths, table
-from .usage import greatest_wanted, setting_word, with_settings
-
-# What is sought: the group, how much of its file pages may be lost, in percent, and after how many seconds what was killed
-# comes back.
-Sought = namedtuple("Sought", "group percent restart")
-# Whether there is one, of the group and those above it their memory.min in frames (None: max), and the replays with 0 for
-# the group and with these. If there is none, they are those with the group's peak.
-Found = namedtuple("Found", "is_found mins before after")
+from .least import bisect, reclaimed_share
+from .least_report import with_margin
+from .orders import reversed_usage
+from .paths import by_tree, is_below, path_up
+from .replay import How, Replay, always, played
+from .report import Played, death_text, first_deaths, table
+from .usage import Usage, greatest_wanted, setting_word, with_settings
 
 
-def mins_of(usage, group, frames):
+@dataclass(frozen=True)
+class Sought:
+    """What is sought: the group, and how much of its file pages may be lost, in percent."""
+    group: str
+    percent: float
+
+
+@dataclass(frozen=True)
+class Found:
+    """Whether there is one, of the group and those above it their memory.min in frames (None: max), and the replays with 0 for
+    the group and with these. If there is none, they are those with the group's peak. And what the group's is if the groups
+    are made in the reversed order (None: there is none)."""
+    is_found: bool
+    mins: Dict[str, Optional[int]]
+    before: Replay
+    after: Replay
+    in_reverse: Optional[int] = None
+
+    def least(self, group: str) -> Optional[int]:
+        """The group's own."""
+        return self.mins[group] if self.is_found else None
+
+
+def mins_of(usage: Usage, group: str, frames: int) -> Dict[str, Optional[int]]:
     """This memory.min for a group, and for each one above at least what its children have together, which share it. With 0
     those above keep what was recorded."""
     if frames == 0:
         return {group: 0}
-    most = {}  # of what was recorded of each group
-    for sample in usage.samples:
-        for path, value in sample.settings["min"].items():
-            most[path] = max(most.get(path, 0), math.inf if value is None else value)
+    most: Dict[str, float] = {path: max(math.inf if one.value is None else one.value for one in values)
+                              for path, track in usage.tracks.items() for values in [track.settings.get("min")] if values}
     most[group] = frames
-    above = list(path_up(group))[1:-1]
+    above = [*path_up(group)][1:-1]
     for parent in above:
         children = sum(value for path, value in most.items() if path.rpartition("/")[0] == parent)
         most[parent] = max(most.get(parent, 0), children)
-    return {path: None if most[path] == math.inf else most[path] for path in [group, *above]}
+    return {path: None if most[path] == math.inf else int(most[path]) for path in [group, *above]}
 
 
-def find(memcg, usage, flags, sought):
+def find_in_order(usage: Usage, how: How, sought: Sought) -> Found:
     """The least memory.min of a group with which no more of its file pages is lost. Whether others die doesn't matter."""
-    def survives(replay):
+    def survives(replay: Replay) -> bool:
         return not any(is_below(death.group.path, sought.group) for death in replay.deaths)
 
-    def keeps(replay):
+    def keeps(replay: Replay) -> bool:
         return survives(replay) and reclaimed_share(replay, sought.group) <= sought.percent
 
-    def play(frames, is_hopeful=lambda _: True):
-        mins = mins_of(usage, sought.group, frames)
-        return played(memcg, with_settings(usage, {"min": mins}), is_hopeful, sought.restart, flags)
-
-    def holds(frames):
-        return keeps(play(frames, survives if sought.percent else keeps))
+    def play(frames: int, is_whole: bool = True) -> Replay:
+        hopeful = always if is_whole else survives if sought.percent else keeps
+        return played(with_settings(usage, {"min": mins_of(usage, sought.group, frames)}), how, hopeful)
 
     before = play(0)
     if keeps(before):
@@ -56,55 +73,73 @@ def find(memcg, usage, flags, sought):
     least = greatest_wanted(usage)[sought.group]
     after = play(least)
     if keeps(after):
-        least = bisect(0, least, holds)
+        least = bisect(0, least, lambda frames: keeps(play(frames, False)))
         after = play(least)
     return Found(keeps(after), mins_of(usage, sought.group, least), before, after)
 
 
-def reasons(found, sought, size):
+def find(usage: Usage, how: How, sought: Sought) -> Found:
+    """The same, and what it is in the reversed order: whose pages go first depends on that."""
+    found = find_in_order(usage, how, sought)
+    other = find_in_order(reversed_usage(usage), how, sought) if len(usage.tracks) > 2 else found
+    return Found(found.is_found, found.mins, found.before, found.after, other.least(sought.group))
+
+
+def reasons(found: Found, sought: Sought, it: Played) -> List[str]:
     """Why no memory.min keeps the file pages."""
-    for death in found.after.deaths:
-        if is_below(death.group.path, sought.group):
-            yield f"{death.group.path} is killed by the limit of {death.limit.path}, and kills ignore memory.min"
-    for (limit, bound, group), (_, _, frames) in sorted(found.after.reclaims.items()):
-        if is_below(group, sought.group):
-            yield (f"{amount_text(frames * size)} of {group} are reclaimed for memory.{bound} of {limit}, and memory.min "
-                   "protects only from reclaim for groups above")
+    why = [f"{death.group.path} is killed by the limit of {death.limit.path}, and kills ignore memory.min"
+           for death in found.after.deaths if is_below(death.group.path, sought.group)]
+    why += [f"{it.text(reclaim.frames)} of {group} are reclaimed for memory.{bound} of {limit}, and memory.min "
+            "protects only from reclaim for groups above"
+            for (limit, bound, group), reclaim in sorted(found.after.reclaims.items()) if is_below(group, sought.group)]
+    return [*dict.fromkeys(why)]
 
 
-def in_bytes(found, size, margin):
+def in_bytes(found: Found, it: Played, margin: float) -> Dict[str, Optional[int]]:
     """The memory.min of the groups in bytes, the highest first."""
-    amounts = with_margin({group: frames for group, frames in found.mins.items() if frames is not None}, size, margin)
-    return {group: amounts.get(group) for group in sorted(found.mins)}
+    amounts = with_margin({path: frames for path, frames in found.mins.items() if frames is not None}, it.size, margin)
+    return {path: amounts.get(path) for path in sorted(found.mins)}
 
 
-def min_lines(size, found, sought, margin):
+def order_line(found: Found, sought: Sought, it: Played) -> Iterator[str]:
+    """The warning, if the order of the groups decides."""
+    if found.in_reverse != found.least(sought.group):
+        other = "none keeps them" if found.in_reverse is None else f"it is {it.text(found.in_reverse)}"
+        yield ("# warning: the order in which the record names the groups decides: reclaim takes pages of those made first. In "
+               f"the reversed order {other}")
+
+
+def lines(it: Played, found: Found, sought: Sought, margin: float) -> Iterator[str]:
     """What the value is, what each group loses without and with it, and the lines of limits.txt."""
     what = f"all but {sought.percent:g} % of its file pages" if sought.percent else "its file pages"
-    if not found.is_found:
+    frames = found.least(sought.group)
+    if frames is None:
         yield f"# no memory.min of {sought.group} keeps {what}, not even that of its peak:"
-        yield from (f"# {reason}" for reason in dict.fromkeys(reasons(found, sought, size)))
+        yield from (f"# {reason}" for reason in reasons(found, sought, it))
+        yield from order_line(found, sought, it)
         return
-    least, deaths = amount_text(found.mins[sought.group] * size), first_deaths(found.after)
+    least, deaths = amount_text(frames * it.size), first_deaths(found.after)
     yield f"# {sought.group} keeps {what} from a memory.min of {least} on; what was reclaimed of each group and those below:"
-    rows = [[path_text(path), amount_text(found.before.groups[path].reclaimed * size),
-             amount_text(group.reclaimed * size), death_text(deaths.get(path))]
-            for path, group in found.after.groups.items()]
+    rows = [[path_text(path), it.text(found.before.groups[path].reclaimed), it.text(found.after.groups[path].reclaimed),
+             death_text(deaths.get(path))] for path in by_tree(found.after.groups)]
     yield from (f"# {line}" for line in table([["group", "min 0", f"min {least}", "died"], *rows]))
-    yield from (f"{group} min {setting_word(value)}" for group, value in in_bytes(found, size, margin).items())
+    yield from order_line(found, sought, it)
+    yield from (f"# {line}" for line in it.hidden)
+    yield from (f"{path} min {setting_word(value)}" for path, value in in_bytes(found, it, margin).items())
 
 
-def json_lines(name, usage, size, found, sought, margin):
+def json_line(it: Played, found: Found, sought: Sought, margin: float) -> str:
     """The same as one object on one line."""
     deaths = first_deaths(found.after)
-    mins = in_bytes(found, size, margin) if found.is_found else {}
-    yield json.dumps({
-        "usage": name, "samples": len(usage.samples), "host_bytes": usage.host * size, "frame_bytes": size,
-        "margin_percent": margin, "group": sought.group,
-        "mins": [{"group": group, "min_bytes": value} for group, value in mins.items()],
-        "why_none": [] if found.is_found else list(dict.fromkeys(reasons(found, sought, size))),
-        "groups": [{"group": path, "reclaimed_before_bytes": found.before.groups[path].reclaimed * size,
-                    "reclaimed_bytes": group.reclaimed * size,
+    mins = in_bytes(found, it, margin) if found.is_found else {}
+    return json.dumps({
+        **it.as_json(), "margin_percent": margin, "group": sought.group,
+        "mins": [{"group": path, "min_bytes": value} for path, value in mins.items()],
+        "reversed_min_bytes": it.bytes_of(found.in_reverse),
+        "why_none": [] if found.is_found else reasons(found, sought, it),
+        "groups": [{"group": path, "reclaimed_before_bytes": found.before.groups[path].reclaimed * it.size,
+                    "reclaimed_bytes": found.after.groups[path].reclaimed * it.size,
                     "died_first_seconds": deaths[path].seconds if path in deaths else None,
                     "died_first_by": deaths[path].limit.path if path in deaths else None}
-                   for path, group in found.after.groups.items()]})
+                   for path in by_tree(found.after.groups)],
+        "remarks": [*it.hidden, *it.remarks]})

@@ -1,14 +1,27 @@
 """The file limits.txt: lines `GROUP VALUE`, `GROUP high|low|min VALUE` and `GROUP oom.group`, comments and empty lines."""
+from __future__ import annotations
+
 import difflib
+from dataclasses import dataclass, field
+from typing import Container, Iterable, List, Set
 
 from .amounts import Fault, read_limit
 from .files import open_text
-from .usage import DEFAULTS, no_settings, setting_name
+from .usage import DEFAULTS, Given, setting_name
 
 FORMS = "a line is GROUP VALUE, GROUP high|low|min VALUE or GROUP oom.group"
 
 
-def unknown_group(group, groups):
+@dataclass
+class Limits:
+    """Of each setting its values in bytes by group, None for `max`; the groups with oom.group; and what is said of the
+    lines whose groups weren't recorded."""
+    given: Given = field(default_factory=lambda: {kind: {} for kind in DEFAULTS})
+    flags: Set[str] = field(default_factory=set)
+    unknown: List[str] = field(default_factory=list)
+
+
+def unknown_group(group: str, groups: Iterable[str]) -> str:
     """What is said of a group that wasn't recorded, with the nearest one that was."""
     known = [name for name in groups if name != "/"]
     near = difflib.get_close_matches("/" + group.strip("/:"), known, 1)
@@ -16,7 +29,7 @@ def unknown_group(group, groups):
     return f"no group {group} was recorded{more}"
 
 
-def kind_of(words):
+def kind_of(words: List[str]) -> str:
     """The setting that a line gives; refuses a line of another form."""
     kind = words[1] if len(words) == 3 else "max"
     file, _, name = kind.partition(".")
@@ -27,32 +40,46 @@ def kind_of(words):
     return kind
 
 
-def add_line(words, groups, settings, flags):
+def add_line(words: List[str], groups: Container[str], limits: Limits) -> None:
     """A line's setting or flag."""
     group, value, kind = words[0], words[-1], kind_of(words)
-    if group not in groups:
-        raise Fault(unknown_group(group, groups))
     if value == "oom.group" and kind == "max":
-        flags.add(group)
+        limits.flags.add(group)
     elif group == "/":
         raise Fault(f"/ has no {setting_name(kind)}" if kind != "max" else "the limit of / is the host's memory: --host SIZE")
-    elif group in settings[kind]:
+    elif group in limits.given[kind]:
         raise Fault(f"{group} has a second {setting_name(kind)}")
     elif difflib.get_close_matches(value, ["oom.group", "memory.oom.group"], 1):
         raise Fault(f"'{value}' is no amount; did you mean oom.group?")
     else:
-        settings[kind][group] = read_limit(value)
+        limits.given[kind][group] = read_limit(value)
 
 
-def read_limits(path, groups):
-    """Of each setting its values in bytes by group, None for `max`, and the groups with oom.group."""
-    settings, flags = no_settings(), set()
+def read_limits(path: str, groups: List[str], is_strict: bool) -> Limits:
+    """What a file has of these groups. Lines of others are skipped, unless that is refused."""
+    limits, known = Limits(), set(groups)
     with open_text(path) as lines:
         for number, line in enumerate(lines, 1):
             words = line.partition("#")[0].split()
             try:
-                if words:
-                    add_line(words, groups, settings, flags)
+                if not words:
+                    continue
+                add_line(words, known, limits)
+                if words[0] not in known:
+                    said = f"line {number}: {unknown_group(words[0], groups)}"
+                    if is_strict:
+                        raise Fault(said.partition(": ")[2])
+                    limits.unknown.append(said)
             except Fault as fault:
                 raise Fault(f"{path}: line {number}: {fault}") from None
-    return settings, flags
+    limits.given = {kind: {group: value for group, value in values.items() if group in known}
+                    for kind, values in limits.given.items()}
+    limits.flags &= known
+    return limits
+
+
+def skipped_line(path: str, limits: Limits) -> str:
+    """What is said of lines that were skipped."""
+    count = len(limits.unknown)
+    return (f"{path}: {count} setting{'s' * (count > 1)} of groups that weren't recorded {'are' if count > 1 else 'is'} "
+            f"skipped, {limits.unknown[0]}; --strict refuses")

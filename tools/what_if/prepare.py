@@ -1,59 +1,84 @@
 """What a recorded usage is before it is played: gaps, cumulative rows, names, and the greatest groups."""
-import functools
+from __future__ import annotations
 
-from .amounts import Fault, note, seconds_text
+from array import array
+from dataclasses import dataclass, replace
+from typing import Callable, Dict, Iterable, List, Optional, Set
+
+from .amounts import Fault, Note, amount_text, names_text, seconds_text
 from .files import open_text, read_json
 from .kubernetes import names_of
-from .paths import MOST_GROUPS, path_up
-from .usage import DEFAULTS, Sample, Usage, no_settings, settings_of
+from .paths import MOST_GROUPS, by_tree, path_up
+from .usage import DEFAULTS, NONE, Track, Usage, groups_with, setting_name
 
 
-def filled(usage, longest, remark=""):
+@dataclass(frozen=True)
+class Gap:
+    """Rows that a group lacks, one after the other: the first and the last sample."""
+    path: str
+    first: int
+    last: int
+
+
+def gaps_of(path: str, track: Track) -> List[Gap]:
+    """Where a group has no row, between two that it has."""
+    there = [at for at, amount in enumerate(track.anon) if amount != NONE]
+    return [Gap(path, one + 1, other - 1) for one, other in zip(there, there[1:]) if other - one > 1]
+
+
+def filled(usage: Usage, longest: Optional[float], note: Note, remark: str = "") -> Usage:
     """The same with the last values of each group that lacks a row for at most so many seconds (None: for any time)."""
-    last, seen, held, samples, gaps = {}, {}, no_settings(), [], []
-    for sample in usage.samples:
-        for group in sample.amounts:
-            last[group] = sample.seconds
-    for seconds, amounts, settings in usage.samples:
-        seen.update((group, (seconds, amount)) for group, amount in amounts.items())
-        for kind, values in settings.items():
-            held[kind].update(values)
-        lacking = {group: amount for group, (at, amount) in seen.items() if group not in amounts
-                   and last[group] > seconds and (longest is None or seconds - at <= longest)}
-        gaps += [(group, seconds) for group in sorted(lacking)]
-        samples.append(Sample(seconds, {**amounts, **lacking}, {
-            kind: {**{group: held[kind].get(group, default) for group in lacking}, **settings[kind]}
-            for kind, default in DEFAULTS.items()}))
-    if gaps:
-        note(f"{len(gaps)} rows are lacking, the first one of {gaps[0][0]} at {seconds_text(gaps[0][1])}: "
-             f"the group keeps its last value{remark}")
-    return usage._replace(samples=samples)
+    gaps = [gap for path, track in usage.tracks.items() for gap in gaps_of(path, track)]
+    tracks, count, filled_gaps = dict(usage.tracks), 0, []
+    for gap in gaps:
+        before, end = gap.first - 1, gap.first
+        while end <= gap.last and (longest is None or usage.times[end] - usage.times[before] <= longest):
+            end += 1
+        if end == gap.first:
+            continue
+        if tracks[gap.path] is usage.tracks[gap.path]:
+            old = tracks[gap.path]
+            tracks[gap.path] = replace(old, anon=old.anon[:], file=old.file[:])
+        track = tracks[gap.path]
+        for at in range(gap.first, end):
+            track.anon[at], track.file[at] = track.anon[before], track.file[before]
+        count += end - gap.first
+        filled_gaps.append(gap)
+    if filled_gaps:
+        first = min(filled_gaps, key=lambda gap: (gap.first, gap.path))
+        longest_gap = max(filled_gaps, key=lambda gap: usage.times[gap.last + 1] - usage.times[gap.first - 1])
+        span = usage.times[longest_gap.last + 1] - usage.times[longest_gap.first - 1]
+        more = f"; the longest gap is {seconds_text(span)}, of {longest_gap.path}" if len(filled_gaps) > 1 else ""
+        note(f"{count} rows are lacking, the first one of {first.path} at {seconds_text(usage.times[first.first])}: "
+             f"the group keeps its last value{remark}{more}")
+    return replace(usage, tracks=tracks)
 
 
-@functools.lru_cache(maxsize=8)  # because most samples have the same groups
-def nearest_above(groups):
-    """Of each of these groups, a tuple, the nearest one above that is among them."""
-    among = set(groups)
-    return {group: next((above for above in path_up(group) if above != group and above in among), None)
-            for group in groups}
+def not_cumulative(usage: Usage, note: Note) -> Usage:
+    """The same, if a row counts all below it: what each group has of its own."""
+    tracks = {path: replace(track, anon=track.anon[:], file=track.file[:]) for path, track in usage.tracks.items()}
+    negative: List[str] = []
+    for at in range(len(usage.times)):
+        for path, track in usage.tracks.items():
+            if track.anon[at] != NONE and path != "/":
+                above = next((each for each in path_up(path) if each != path and usage.tracks[each].anon[at] != NONE), None)
+                if above is not None:
+                    tracks[above].anon[at] -= track.anon[at]
+                    tracks[above].file[at] -= track.file[at]
+        for path, track in tracks.items():
+            if usage.tracks[path].anon[at] != NONE and (track.anon[at] < 0 or track.file[at] < 0):
+                negative += [path] if path != "/" else []
+                track.anon[at], track.file[at] = max(0, track.anon[at]), max(0, track.file[at])
+    if negative:
+        names = [*dict.fromkeys(negative)]
+        note(f"{names_text(names)}: in {len(negative)} rows less than the groups below have together, so its own part "
+             "counts as 0 there")
+    return replace(usage, tracks=tracks)
 
 
-def own_rows(amounts):
-    """Rows that count all below them, as rows of what each group has of its own."""
-    above, own = nearest_above(tuple(amounts)), {group: list(amount) for group, amount in amounts.items()}
-    for group, amount in amounts.items():
-        if above[group] is not None:
-            for kind in (0, 1):
-                own[above[group]][kind] -= amount[kind]
-    return {group: tuple(max(0, count) for count in amount) for group, amount in own.items()}
+# The greatest groups
 
-
-def not_cumulative(usage):
-    """The same, if a row counts all below it."""
-    return usage._replace(samples=[sample._replace(amounts=own_rows(sample.amounts)) for sample in usage.samples])
-
-
-def check_top(count, kept, what):
+def check_top(count: int, kept: Iterable[str], what: str) -> Set[str]:
     """The groups that have to stay with all above them; refuses to drop one."""
     whole = {above for group in kept for above in path_up(group)} - {"/"}
     if len(whole) > count:
@@ -63,29 +88,58 @@ def check_top(count, kept, what):
     return whole | {"/"}
 
 
-def keep_greatest(usage, count, kept):
-    """So many groups with the greatest peaks are kept, with all above them, beside those that have to stay. What the
-    others have is counted in the nearest kept group above."""
-    peaks = dict.fromkeys(usage.groups, 0)
-    for sample in usage.samples:
-        for group, amount in sample.amounts.items():
-            peaks[group] = max(peaks[group], sum(amount))
-    for group in sorted(usage.groups, key=lambda group: (-peaks[group], group)):
-        more = kept | set(path_up(group))
+def kept_groups(usage: Usage, count: int, kept: Set[str]) -> Set[str]:
+    """Those that have to stay, then those with a recorded setting, then the greatest, as far as there is room."""
+    have = groups_with(usage, *DEFAULTS)
+    peaks = {path: track.most() for path, track in usage.tracks.items()}
+    for path in sorted(usage.tracks, key=lambda path: (path not in have, -peaks[path], path)):
+        more = kept | set(path_up(path))
         kept = more if len(more) - 1 <= count else kept
-    samples = []
-    for seconds, amounts, settings in usage.samples:
-        sums = {}
-        for group, (anon, file) in amounts.items():
-            into = next(above for above in path_up(group) if above in kept)
-            before = sums.get(into, (0, 0))
-            sums[into] = (before[0] + anon, before[1] + file)
-        samples.append(Sample(seconds, sums, settings_of(settings, kept.__contains__)))
-    return Usage(samples, sorted(kept), usage.host)
+    return kept
 
 
-def read_names(path):
-    """The names in a file: lines `ID NAME`, or what kubectl get pods -o json writes."""
+def settings_text(track: Track) -> str:
+    """The last settings of a group, as words."""
+    last = {kind: values[-1].value for kind, values in track.settings.items() if values}
+    return ", ".join(f"{setting_name(kind)} {'max' if value is None else amount_text(value)}"
+                     for kind, value in last.items() if value != DEFAULTS[kind])
+
+
+def keep_greatest(usage: Usage, count: int, must: Set[str], note: Note) -> Usage:
+    """So many groups are kept. What the others have is counted in the nearest kept group above, which then stands for
+    them: who would die of those can't be said."""
+    kept = kept_groups(usage, count, must)
+    tracks = {path: replace(track, anon=track.anon[:], file=track.file[:])
+              for path, track in usage.tracks.items() if path in kept}
+    merged: Dict[str, List[str]] = {}
+    lost = {path: settings_text(usage.tracks[path]) for path in by_tree(groups_with(usage, *DEFAULTS) - kept)}
+    for path, track in usage.tracks.items():
+        if path in kept:
+            continue
+        into = next(above for above in path_up(path) if above in kept)
+        merged.setdefault(into, []).append(path)
+        tracks[into] = with_added(tracks[into], track)
+    if lost:
+        note(f"--top {count}: settings of {len(lost)} merged groups aren't played: "
+             + "; ".join(f"{path} {text}" for path, text in lost.items()))
+    return replace(usage, tracks=tracks, merged=merged)
+
+
+def with_added(track: Track, other: Track) -> Track:
+    """A group with what another had too."""
+    def both(own: "array[int]", more: "array[int]") -> "array[int]":
+        return array("q", [two if one == NONE else one if two == NONE else one + two for one, two in zip(own, more)])
+
+    return replace(track, anon=both(track.anon, other.anon), file=both(track.file, other.file),
+                   oom_kills=sorted({*track.oom_kills, *other.oom_kills}))
+
+
+# Names
+
+def read_names(path: Optional[str]) -> Dict[str, str]:
+    """The names in a file, if there is one: lines `ID NAME`, or what kubectl get pods -o json writes."""
+    if path is None:
+        return {}
     with open_text(path) as lines:
         words = [line.partition("#")[0].split() for line in lines]
     if words and words[0][:1] and words[0][0].startswith("{"):
@@ -93,14 +147,14 @@ def read_names(path):
     for number, line in enumerate(words, 1):
         if len(line) not in (0, 2) or "/" in "".join(line):
             raise Fault(f"{path}: line {number}: a line is ID NAME, both without a /")
-    return dict(filter(None, words))
+    return {line[0]: line[1] for line in words if line}
 
 
-def renamed(names):
+def renamed(names: Dict[str, str]) -> Callable[[str], str]:
     """What gives each name of a path that contains an ID the name of that ID. It keeps what it found: paths come often."""
-    known = {}
+    known: Dict[str, str] = {}
 
-    def rename(path):
+    def rename(path: str) -> str:
         if path not in known:
             parts = path.split("/")
             known[path] = "/".join(next((names[one] for one in names if one in part), part) for part in parts)

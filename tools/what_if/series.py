@@ -1,38 +1,63 @@
-"""Series of other tools: the values of one kind, of what their labels name, over time; and the usage that they make."""
+"""Series of other tools: the values of one kind, of what their labels name, over time."""
+from __future__ import annotations
+
 import datetime
 import math
 import re
-from collections import Counter, namedtuple
+from array import array
+from collections import Counter
+from dataclasses import dataclass, field
+from typing import Any, Dict, Iterable, List, Optional, Set, Tuple
 
-from .amounts import Fault, note
-from .paths import check_path
-from .usage import DEFAULTS, Sample, Usage, groups_of, no_settings
+from .amounts import Fault, names_text
+from .kubernetes import pod_path
+from .paths import check_path, plain
 
-Series = namedtuple("Series", "kind labels values")
 # What cAdvisor, the kubelet and the node exporter call a kind.
 KINDS = {"container_memory_rss": "rss", "container_memory_cache": "cache", "container_memory_usage_bytes": "usage",
          "container_memory_working_set_bytes": "working_set", "container_spec_memory_limit_bytes": "limit",
          "container_memory_total_active_file_bytes": "active_file",
          "container_memory_total_inactive_file_bytes": "inactive_file",
+         "container_oom_events_total": "oom_kill", "container_memory_max_usage_bytes": "peak",
          "machine_memory_bytes": "host", "node_memory_MemTotal_bytes": "host"}
-KIND_NAMES = ["rss", "cache", "usage", "working_set", "limit", "active_file", "inactive_file", "shmem", "host"]
+KIND_NAMES = ["rss", "cache", "usage", "working_set", "limit", "active_file", "inactive_file", "shmem", "host", "oom_kill",
+              "peak"]
 # The kinds that are settings. From MAX on a number means `max`: version 1 writes such a limit if there is none.
 SETTINGS, MAX = {"limit": "max", "high": "high", "low": "low", "min": "min"}, 1 << 60
+# The kinds that the kernel counts or keeps.
+COUNTED = ("oom_kill", "peak")
 UNITS = {"": 1, "B": 1,
          **{f"{unit}{end}": 1024 ** power for power, unit in enumerate("KMGTP", 1) for end in ("", "i", "iB")},
          **{f"{unit}B": 1000 ** power for power, unit in enumerate("kMGTP", 1)}}
 
 
-def read_number(word):
+@dataclass
+class Series:
+    """The values of a kind by their time, and what labels they have."""
+    kind: str
+    labels: Dict[str, str]
+    times: "array[float]" = field(default_factory=lambda: array("d"))
+    values: "array[int]" = field(default_factory=lambda: array("q"))
+
+    def add(self, time: float, value: int) -> None:
+        """A value."""
+        if value < 0:
+            raise Fault(f"{self.kind} of {', '.join(self.labels.values())} has the value {value}, and memory isn't negative")
+        self.times.append(time)
+        self.values.append(value)
+
+
+def read_number(word: Any) -> Optional[int]:
     """The bytes of a number that may have a point, an exponent and a unit; None if it is none."""
-    found = re.fullmatch(r"\s*([0-9.]+(?:[eE][+-]?[0-9]+)?)\s*([A-Za-z]*)\s*", str(word))
+    found = re.fullmatch(r"\s*(-?)([0-9.]+(?:[eE][+-]?[0-9]+)?)\s*([A-Za-z]*)\s*", str(word))
     try:
-        return math.ceil(float(found[1]) * UNITS[found[2]]) if found else None
+        number = math.ceil(float(found[2]) * UNITS[found[3]]) if found else None
     except (KeyError, ValueError, OverflowError):
         return None
+    return -number if found and number and found[1] else number
 
 
-def read_time(word):
+def read_time(word: Any) -> float:
     """The seconds of a time: of a number, in milliseconds if it is a date in these, or of ISO 8601, in UTC if unsaid."""
     try:
         seconds = float(word)
@@ -44,94 +69,87 @@ def read_time(word):
     return seconds
 
 
-def iso_seconds(word):
+def iso_seconds(word: str) -> float:
     """The seconds of a time of ISO 8601; -1 if it is none."""
     try:
         time = datetime.datetime.fromisoformat(re.sub(r"Z$", "+00:00", word))
     except ValueError:
-        return -1
+        return -1.0
     return (time if time.tzinfo else time.replace(tzinfo=datetime.timezone.utc)).timestamp()
 
 
-def kind_of(name, given):
+def kind_of(name: Optional[str], given: Optional[str]) -> str:
     """The kind of a series of this name; else the one that is given with the file."""
-    kind = KINDS.get(name, given)
+    kind = KINDS.get(name or "", given)
     if kind is None:
         what = f"the metric {name} isn't known" if name else "a series has no name of a metric"
         raise Fault(f"{what}: write KIND=FILE, and KIND is {', '.join(KIND_NAMES)}")
     return kind
 
 
-def plain(name):
-    """A name as a path may have it."""
-    return "".join(byte if "!" <= byte <= "~" and byte not in "/," else "_" for byte in name) or "_"
-
-
-def path_of(labels, twice):
+def path_of(labels: Dict[str, str], twice: Set[str]) -> Optional[str]:
     """The group of a series: /POD/CONTAINER, /POD or the path that it names; None if it has none."""
     if "path" in labels:
         return "/" + "/".join(plain(name) for name in labels["path"].split("/") if name)
     pod = labels.get("pod") or labels.get("pod_name")
     if not pod:
         return None
-    pod = f"{labels.get('namespace')}_{pod}" if pod in twice else pod
     container = labels.get("container") or labels.get("container_name")
-    return "/" + "/".join(plain(name) for name in [pod, container] if name)
+    names = [pod_path(labels.get("namespace"), pod, twice)[1:], container]
+    return "/" + "/".join(plain(name) for name in names if name)
 
 
-def by_group(series):
-    """Of each group the values of each kind by their time. Of two series of one group the greater value holds."""
+def check_nodes(series: Iterable[Series]) -> None:
+    """Refuses the series of several nodes, which would be one host."""
+    found: Dict[Tuple[str, str], Set[str]] = {}
+    for one in series:
+        for label in ("node", "instance"):
+            if one.labels.get(label):
+                found.setdefault((one.kind, label), set()).add(one.labels[label])
+    for (kind, label), nodes in found.items():
+        if len(nodes) > 1:
+            names = sorted(nodes)
+            raise Fault(f"{kind} has the {label}s {names_text(names)}, and one host is played: add a matcher to the query, "
+                        f"such as {label}=\"{names[0]}\"")
+
+
+def by_group(series: List[Series]) -> Tuple[Dict[str, Dict[str, Series]], int]:
+    """Of each group the series of each kind, and how many series name no group. Of two of one group and kind the greater
+    value holds at each time."""
+    check_nodes(series)
     pods = {(one.labels.get("namespace"), one.labels.get("pod")) for one in series}
-    twice = {pod for pod, count in Counter(pod for _, pod in pods).items() if count > 1}
-    found, left_out = {}, 0
+    twice = {pod for pod, count in Counter(pod for _, pod in pods).items() if count > 1 and pod}
+    found: Dict[str, Dict[str, Series]] = {}
+    left_out = 0
     for one in series:
         path = "/" if one.kind == "host" else path_of(one.labels, twice)
-        left_out += path is None
-        if path is not None:
+        if path is None:
+            left_out += 1
+            continue
+        if path not in found:
             check_path(path)
-            values = found.setdefault(path, {}).setdefault(one.kind, {})
-            for seconds, value in one.values:
-                values[seconds] = max(value, values.get(seconds, 0))
-    if left_out:
-        note(f"{left_out} series have no label pod, and are left out")
-    return found
+        kinds = found.setdefault(path, {})
+        kinds[one.kind] = greater(kinds[one.kind], one) if one.kind in kinds else one
+    return {path: {kind: in_time(one) for kind, one in kinds.items()} for path, kinds in found.items()}, left_out
 
 
-def amount(kinds):
-    """The anonymous and the file pages that values of these kinds mean. What may not be a page of a file isn't one, so
-    shared memory is anonymous where its size can be told."""
-    cache = kinds.get("cache", 0)
-    if "active_file" in kinds and "inactive_file" in kinds:
-        in_files = kinds["active_file"] + kinds["inactive_file"]
-    else:
-        in_files = cache - kinds.get("shmem", 0)
-    if "rss" in kinds:
-        shared = max(0, cache - in_files)
-        of_set = 0 if "cache" in kinds or in_files else kinds.get("working_set", 0) - kinds["rss"]
-        return kinds["rss"] + shared, max(0, in_files, of_set)
-    whole = kinds.get("usage", kinds.get("working_set", 0) + (kinds.get("inactive_file", 0)))
-    return max(0, whole - max(0, in_files)), max(0, in_files)
+def greater(one: Series, other: Series) -> Series:
+    """Two series of one kind and group as one. Snapshots have one value a series, in order: these are appended."""
+    if one.times and other.times and one.times[-1] < other.times[0]:
+        one.times.extend(other.times)
+        one.values.extend(other.values)
+        return one
+    values = dict(zip(one.times, one.values))
+    for time, value in zip(other.times, other.values):
+        values[time] = max(value, values.get(time, 0))
+    return Series(one.kind, one.labels, array("d", sorted(values)), array("q", [values[time] for time in sorted(values)]))
 
 
-def setting(name, number):
-    """The setting that a number means. A limit of 0 is how cAdvisor writes that there is none."""
-    return None if number >= MAX or (name, number) == ("max", 0) else number
-
-
-def usage_of(series):
-    """The usage that series make. A group has a row at a time if each of its kinds has a value then."""
-    found = by_group(series)
-    host = max(found.get("/", {}).pop("host", {0: 0}).values()) or None
-    samples = {}
-    for path, kinds in sorted(found.items()):
-        given, last = {name: kinds.pop(kind, {}) for kind, name in SETTINGS.items()}, dict(DEFAULTS)
-        for seconds in sorted(set.intersection(*map(set, kinds.values())) if kinds else ()):
-            last.update((name, setting(name, values[seconds])) for name, values in given.items() if seconds in values)
-            sample = samples.setdefault(seconds, Sample(seconds, {}, no_settings()))
-            sample.amounts[path] = amount({kind: values[seconds] for kind, values in kinds.items()})
-            for name, value in last.items():
-                sample.settings[name][path] = value
-    if not samples:
-        raise Fault("there is no value of any group")
-    samples = [samples[seconds] for seconds in sorted(samples)]
-    return Usage(samples, groups_of(samples), host)
+def in_time(one: Series) -> Series:
+    """A series in the order of its times, each once."""
+    if all(before < after for before, after in zip(one.times, one.times[1:])):
+        return one
+    values: Dict[float, int] = {}
+    for time, value in zip(one.times, one.values):
+        values[time] = max(value, values.get(time, 0))
+    return Series(one.kind, one.labels, array("d", sorted(values)), array("q", [values[time] for time in sorted(values)]))

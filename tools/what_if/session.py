@@ -1,22 +1,30 @@
 """A session with `memcg serve`, which answers each line before it reads the next one."""
+from __future__ import annotations
+
+import fcntl
 import os
 import shutil
 import subprocess
+from types import TracebackType
+from typing import IO, List, Optional, Sequence, Type, cast
 
 from .amounts import Fault
 
-# What a pipe takes at least without its reader: so a part of the lines is written while nothing is read.
-MOST_BYTES = 4096
+# What a pipe takes at least without its reader, and what is written at once if it takes that: so no line waits for one to
+# be read while its reader waits for its answers to be.
+LEAST_BYTES, MOST_BYTES = 4096, 60_000
+# Linux's fcntl that says what a pipe takes; Python knows it from 3.10 on.
+GET_PIPE_SIZE = 1032
 # A script of `replay` has at most so many bytes.
 MOST_SCRIPT = 1 << 20
 
 
-def sizes(frames):
+def sizes(frames: int) -> List[str]:
     """The options of a zone in which a group is charged for exactly the frames that it has: a stock has one page."""
     return ["--frames", str(frames), "--cpus", "1", "--stock", "1"]
 
 
-def find_program(folders):
+def find_program(folders: Sequence[str]) -> str:
     """The program beside whatif, or in PATH."""
     beside = [f"{folder}/memcg" for folder in folders if os.access(f"{folder}/memcg", os.X_OK)]
     found = beside[0] if beside else shutil.which("memcg")
@@ -25,88 +33,105 @@ def find_program(folders):
     return found
 
 
+def pipe_bytes(file: IO[bytes]) -> int:
+    """How many bytes may be written at once."""
+    try:
+        return max(LEAST_BYTES, min(MOST_BYTES, fcntl.fcntl(file, GET_PIPE_SIZE)))
+    except OSError:
+        return LEAST_BYTES
+
+
 class Session:
     """A session. The lines are kept if they are to become a log."""
 
-    def __init__(self, memcg, frames, is_kept=False, choices=()):
+    def __init__(self, memcg: str, frames: int, choices: Sequence[str] = (), is_kept: bool = False) -> None:
         self.memcg, self.words, self.is_no_kill = memcg, [*sizes(frames), *choices], "--no-kill" in choices
-        self.script = [] if is_kept else None
+        self.script: Optional[List[str]] = [] if is_kept else None
+        self.script_bytes = 0
         try:
             self.ran = subprocess.Popen([memcg, "serve", "--explain", *self.words], stdin=subprocess.PIPE,
                                         stdout=subprocess.PIPE, stderr=subprocess.PIPE, bufsize=0)
         except OSError as fault:
             raise Fault(f"{memcg}: {fault.strerror}: --memcg PATH names Tempolemon's memcg") from None
-        self.rest, self.told = b"", []
+        self.pipes = tuple(cast(IO[bytes], pipe) for pipe in (self.ran.stdin, self.ran.stdout, self.ran.stderr))
+        self.most = pipe_bytes(self.pipes[0])
+        self.rest = b""
+        self.told: List[str] = []
 
-    def __enter__(self):
+    def __enter__(self) -> Session:
         return self
 
-    def __exit__(self, *_):
-        self.ran.stdin.close()
-        self.ran.stdout.close()
-        self.ran.stderr.close()
+    def __exit__(self, _: Optional[Type[BaseException]], __: Optional[BaseException], ___: Optional[TracebackType]) -> None:
+        for pipe in self.pipes:
+            pipe.close()
         self.ran.wait()
 
-    def tell(self, lines):
+    def tell(self, lines: List[str]) -> None:
         """Lines whose answers nobody needs: they are sent before the next ones that are asked, which saves a wait."""
         self.told += lines
 
-    def ask(self, lines):
-        """The answers to lines in order, each as its lines."""
+    def ask(self, lines: List[str]) -> List[str]:
+        """The answers to lines in order."""
         if not lines:
             return []
-        told, answers, part, length = len(self.told), [], [], 0
-        lines, self.told = self.told + lines, []
+        told, (self.told, lines) = len(self.told), ([], self.told + lines)
         if self.script is not None:
             self.script += lines
-        for line in lines:
-            if length + len(line) >= MOST_BYTES:
-                answers += self.ask_part(part)
-                part, length = [], 0
-            part.append(line)
-            length += len(line) + 1
-        return (answers + self.ask_part(part))[told:]
+            self.script_bytes += sum(map(len, lines)) + len(lines)
+        text, begin = ("\n".join(lines) + "\n").encode(), 0
+        answers: List[str] = []
+        while begin < len(text):
+            end = text.rfind(b"\n", begin, begin + self.most) + 1
+            answers += self.ask_part(text[begin:end])
+            begin = end
+        return answers[told:]
 
-    def ask_part(self, part):
+    def ask_part(self, part: bytes) -> List[str]:
         """The answers to a few lines, which the pipe takes at once."""
+        lines, output, _ = self.pipes
+        count = part.count(b"\n")
         try:
-            self.ran.stdin.write("".join(f"{line}\n" for line in part).encode())
-            while self.rest.count(b"\n\n") < len(part):
-                read = os.read(self.ran.stdout.fileno(), 1 << 16)
+            lines.write(part)
+            while self.rest.count(b"\n\n") < count:
+                read = os.read(output.fileno(), 1 << 16)
                 if not read:
                     raise BrokenPipeError
                 self.rest += read
         except BrokenPipeError:
             raise Fault(self.reason()) from None
-        *answers, self.rest = self.rest.split(b"\n\n", len(part))
-        return [answer.decode(errors="replace").split("\n") for answer in answers]
+        *answers, self.rest = self.rest.split(b"\n\n", count)
+        return b"\n\n".join(answers).decode(errors="replace").split("\n\n")
 
-    def reason(self):
+    def reason(self) -> str:
         """Why the session ended."""
-        said = self.ran.stderr.read().decode(errors="replace").strip().split("\n")[-1]
+        said = self.pipes[2].read().decode(errors="replace").strip().split("\n")[-1]
         if said.startswith("serve needs the proved program"):
             return "there is no proved ./memcg: run ./memcg prove"
         return (f"{self.memcg} serve ended: {said or f'status {self.ran.wait()}'}: is that Tempolemon's memcg? "
                 "--memcg PATH names it")
 
-    def flush(self):
+    def flush(self) -> None:
         """The lines that wait are sent."""
         lines, self.told = self.told, []
         self.ask(lines)
 
-    def comment(self, line):
+    def comment(self, line: str) -> None:
         """A comment among the lines that are kept."""
         if self.script is not None:
             self.flush()
             self.script.append(line)
+            self.script_bytes += len(line) + 1
 
-    def log(self):
-        """The log that `replay --steps` writes of the lines that were asked."""
+    def is_too_long(self) -> bool:
+        """Whether the lines that are kept are too many for a script."""
+        return self.script_bytes > MOST_SCRIPT
+
+    def log(self) -> Optional[str]:
+        """The log that `replay --steps` writes of the lines that were asked; None if they are too many for a script."""
         self.flush()
-        script = "".join(f"{line}\n" for line in self.script)
-        if len(script) > MOST_SCRIPT:
-            raise Fault(f"the script of the log has {len(script)} bytes, and at most {MOST_SCRIPT} are possible: "
-                        "a greater --frame makes it shorter")
+        if self.is_too_long():
+            return None
+        script = "".join(f"{line}\n" for line in self.script or ())
         ran = subprocess.run([self.memcg, "replay", "--steps", *self.words], input=script,
                              stdout=subprocess.PIPE, stderr=subprocess.PIPE, universal_newlines=True, check=False)
         if ran.returncode != 0:

@@ -1,10 +1,13 @@
 """Limits as drop-ins of systemd."""
+from __future__ import annotations
+
 import shlex
+from typing import Dict, Iterator
 
 SECTIONS = {"service": "Service", "slice": "Slice", "scope": "Scope", "socket": "Socket", "mount": "Mount"}
 
 
-def drop_in_lines(limits):
+def drop_in_lines(limits: Dict[str, int]) -> Iterator[str]:
     """Lines for a shell, which write a drop-in for each unit."""
     for path, limit in limits.items():
         unit = path.rpartition("/")[2]

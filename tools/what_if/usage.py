@@ -1,193 +1,190 @@
-"""A recorded usage: a CSV file of samples, in bytes, and the same in frames."""
-import csv
-from collections import namedtuple
+"""A recorded usage: of each group what it had at each sample, in bytes, and the same in frames."""
+from __future__ import annotations
 
-from .amounts import Fault, seconds_text
-from .files import open_text
-from .paths import MOST_GROUPS, check_path, is_below, path_up
+from array import array
+from dataclasses import dataclass, field, replace
+from typing import Callable, Dict, Iterable, List, Optional, Set
+
+from .paths import is_below, path_up, with_ancestors
 
 # The settings of a group, and what each is if nothing else was recorded; None is `max`.
-DEFAULTS = {"max": None, "high": None, "low": 0, "min": 0}
-# The columns of a record, and those that it must have.
-HEADER = ["seconds", "group", "anon", "file", *DEFAULTS]
-LEAST = HEADER[:5]
-# What to do about times and numbers in other forms.
-REMEDY = "'whatif import rows' also takes ISO times, units and exponents"
+DEFAULTS: Dict[str, Optional[int]] = {"max": None, "high": None, "low": 0, "min": 0}
+# In place of an amount, if a group has no row at a sample.
+NONE = -1
 # A zone has at most 1,048,576 frames, some of which are on the CPU's list.
 USUAL_FRAMES, MOST_FRAMES = 65_536, 1_048_000
+# So many frames the least limit should have, so that rounding decides little.
+LEAST_FRAMES = 20
 
-# At a time: of each group what it has of its own, (anon, file), and of each setting the groups' values.
-Sample = namedtuple("Sample", "seconds amounts settings")
-# What was recorded, and the host's memory if that is known.
-Usage = namedtuple("Usage", "samples groups host")
-
-
-def no_settings():
-    """Of each setting no value."""
-    return {kind: {} for kind in DEFAULTS}
+# Of a kind of setting, of each group its values (None is `max`).
+Given = Dict[str, Dict[str, Optional[int]]]
 
 
-def setting_word(value):
+@dataclass(frozen=True)
+class Setting:
+    """The value that a setting has from a sample on."""
+    at: int
+    value: Optional[int]
+
+
+@dataclass
+class Track:
+    """What one group had of its own at each sample; NONE if it has no row."""
+    anon: "array[int]"
+    file: "array[int]"
+    # Of each kind of setting its values from some samples on.
+    settings: Dict[str, List[Setting]] = field(default_factory=dict)
+    # The samples at which the kernel had killed in it since the one before.
+    oom_kills: List[int] = field(default_factory=list)
+    # The kernel's own peak of it with all below, if that was recorded.
+    peak: Optional[int] = None
+    # The samples at which it began, first and anew.
+    starts: List[int] = field(default_factory=list)
+
+    def total(self, at: int) -> int:
+        """What it had at a sample."""
+        return 0 if self.anon[at] == NONE else self.anon[at] + self.file[at]
+
+    def most(self) -> int:
+        """The most that it had at a sample."""
+        return max(map(self.total, range(len(self.anon))), default=0)
+
+    def setting(self, kind: str, at: int) -> Optional[int]:
+        """The value of a setting at a sample."""
+        found = DEFAULTS[kind]
+        for one in self.settings.get(kind, ()):
+            if one.at <= at:
+                found = one.value
+        return found
+
+    def set(self, kind: str, at: int, value: Optional[int]) -> None:
+        """The setting has this value from this sample on, the last one so far."""
+        values = self.settings.setdefault(kind, [])
+        if value != (values[-1].value if values else DEFAULTS[kind]):
+            values.append(Setting(at, value))
+
+
+@dataclass(frozen=True)
+class Usage:
+    """What was recorded. The groups are in the order in which the record names them first, each after its parent."""
+    times: "array[float]"
+    tracks: Dict[str, Track]
+    host: Optional[int]
+    # Of a group into which others were merged, these.
+    merged: Dict[str, List[str]] = field(default_factory=dict)
+    # What the record lacks, as the import of it found.
+    remarks: List[str] = field(default_factory=list)
+
+    @property
+    def groups(self) -> List[str]:
+        """The groups."""
+        return [*self.tracks]
+
+    @property
+    def seconds(self) -> float:
+        """From the first sample to the last."""
+        return self.times[-1] - self.times[0]
+
+
+def empty_track(samples: int) -> Track:
+    """That of a group without a row."""
+    return Track(array("q", [NONE]) * samples, array("q", [NONE]) * samples)
+
+
+def usage_of(times: "array[float]", tracks: Dict[str, Track], host: Optional[int]) -> Usage:
+    """The usage of these tracks, with all groups above them."""
+    samples = len(times)
+    for track in tracks.values():
+        for amounts in (track.anon, track.file):
+            amounts.extend([NONE] * (samples - len(amounts)))
+    return Usage(times, {path: tracks.get(path) or empty_track(samples) for path in with_ancestors(tracks)}, host)
+
+
+def setting_word(value: Optional[int]) -> str:
     """A setting as a row has it."""
     return "max" if value is None else str(value)
 
 
-def setting_name(kind):
+def setting_name(kind: str) -> str:
     """A setting as a sentence names it."""
     return "limit" if kind == "max" else f"memory.{kind}"
 
 
-def whole_number(word, name):
-    """A number of bytes."""
-    if word.startswith("-"):
-        raise Fault(f"{name} is negative: {word}")
-    if not (word.isascii() and word.isdigit()):
-        raise Fault(f"{name} is no whole number of bytes: '{word}'; {REMEDY}")
-    return int(word)
+def least_limit(usage: Usage) -> Optional[int]:
+    """The least limit or memory.high that some group has, of a page or more."""
+    return min((one.value for track in usage.tracks.values() for kind in ("max", "high")
+                for one in track.settings.get(kind, ()) if one.value and one.value >= 4096), default=None)
 
 
-def read_setting(word, name):
-    """A setting of a row."""
-    if word in ("", "-1", "unlimited"):
-        raise Fault(f"{name} is a whole number of bytes, or the word max, and not '{word}'")
-    return None if word == "max" else whole_number(word, name)
-
-
-def read_seconds(word, before):
-    """The time of a row, which isn't before that of the row above."""
-    try:
-        seconds = float(word)
-    except ValueError:
-        seconds = -1.0
-    if not 0 <= seconds < float("inf"):
-        raise Fault(f"'{word}' is no time in seconds; {REMEDY}")
-    if seconds < before:
-        raise Fault(f"the time goes back, from {seconds_text(before)} to {seconds_text(seconds)}: sort the rows by time, "
-                    "as 'whatif import rows' does")
-    return seconds
-
-
-def add_row(row, header, samples, rename):
-    """A row goes to the sample of its time."""
-    if len(row) != len(header):
-        raise Fault(f"{len(row)} values, and a row has {len(header)}: {','.join(header)}")
-    seconds = read_seconds(row[0], samples[-1].seconds if samples else 0.0)
-    group, anon, file = rename(row[1]), whole_number(row[2], "anon"), whole_number(row[3], "file")
-    check_path(group)
-    if not samples or seconds > samples[-1].seconds:
-        samples.append(Sample(seconds, {}, no_settings()))
-    if group in samples[-1].amounts:
-        raise Fault(f"{group} has a second row at this time")
-    samples[-1].amounts[group] = (anon, file)
-    for kind, word in zip(header[4:], row[4:]):
-        samples[-1].settings[kind][group] = read_setting(word, kind)
-
-
-def read_rows(lines, name, rename):
-    """The samples of a file's lines."""
-    samples, rows = [], csv.reader(lines)
-    try:
-        header = next(rows, None)
-        if header is None or header[:5] != LEAST or sorted(header) != sorted({*header} & {*HEADER}):
-            raise Fault(f"the header {','.join(LEAST)} is due; 'whatif import' makes such a file of other formats")
-        for row in rows:
-            add_row(row, header, samples, rename)
-    except csv.Error as fault:
-        raise Fault(f"{name}: line {rows.line_num}: {fault}") from None
-    except Fault as fault:
-        raise Fault(f"{name}: line {max(1, rows.line_num)}: {fault}") from None
-    if not samples:
-        raise Fault(f"{name}: line {rows.line_num}: no sample: no row follows the header, so record for longer")
-    return samples
-
-
-def groups_of(samples):
-    """The groups of samples with all above them, in the order of their paths."""
-    return sorted({above for sample in samples for group in sample.amounts for above in path_up(group)} | {"/"})
-
-
-def read_usage(path, rename=str):
-    """What a CSV file has, with the names of groups that `rename` gives them."""
-    with open_text(path) as lines:
-        samples = read_rows(lines, path, rename)
-    host = next((sample.settings["max"]["/"] for sample in samples if "/" in sample.amounts), None)
-    for sample in samples:
-        for values in sample.settings.values():
-            values.pop("/", None)
-    return Usage(samples, groups_of(samples), host)
-
-
-def check_count(usage, name):
-    """Refuses more groups than a zone has."""
-    count = len(usage.groups) - 1
-    if count > MOST_GROUPS:
-        raise Fault(f"{name}: {count} groups with their ancestors, and at most {MOST_GROUPS} are possible: "
-                    f"--top {MOST_GROUPS} keeps the greatest, and each with a setting")
-
-
-def frame_size(host):
-    """The least power of two from 4 KiB on, of which the host has at most the usual number."""
+def frame_size(host: int, least: Optional[int]) -> int:
+    """The least power of two from 4 KiB on, of which the host has at most the usual number; less if the least limit
+    would have too few frames, as far as a zone can have so many."""
     size = 4096
     while host > size * USUAL_FRAMES:
         size *= 2
+    while least is not None and size > 4096 and least < LEAST_FRAMES * size and host <= size // 2 * MOST_FRAMES:
+        size //= 2
     return size
 
 
-def in_frames(usage, size):
+def in_frames(usage: Usage, size: int) -> Usage:
     """The same in frames of this size: amounts are rounded up and settings down, so that no answer is too kind."""
-    samples = [Sample(seconds, {group: (-(-anon // size), -(-file // size)) for group, (anon, file) in amounts.items()},
-                      settings_in_frames(settings, size)) for seconds, amounts, settings in usage.samples]
-    return Usage(samples, usage.groups, usage.host // size)
+    def frames(amounts: "array[int]") -> "array[int]":
+        return array("q", [-(-amount // size) if amount > 0 else amount for amount in amounts])
+
+    return with_tracks(usage, lambda _, track: replace(
+        track, anon=frames(track.anon), file=frames(track.file), settings={
+            kind: [Setting(one.at, None if one.value is None else one.value // size) for one in values]
+            for kind, values in track.settings.items()}), None if usage.host is None else usage.host // size)
 
 
-def settings_in_frames(settings, size):
-    """Settings in whole frames of this size."""
-    return {kind: {group: None if value is None else value // size for group, value in values.items()}
-            for kind, values in settings.items()}
+def with_tracks(usage: Usage, change: Callable[[str, Track], Track], host: Optional[int] = None) -> Usage:
+    """The same with the tracks as they are changed, and perhaps with another host."""
+    return replace(usage, tracks={path: change(path, track) for path, track in usage.tracks.items()},
+                   host=usage.host if host is None else host)
 
 
-def settings_of(settings, is_kept):
-    """Those of the groups that are kept."""
-    return {kind: {group: value for group, value in values.items() if is_kept(group)} for kind, values in settings.items()}
-
-
-def with_settings(usage, given):
+def with_settings(usage: Usage, given: Given) -> Usage:
     """The same with these settings from the beginning on, and only them at their groups."""
-    samples = [sample._replace(settings=dict(sample.settings)) for sample in usage.samples]
-    for kind, values in given.items():
-        for sample in samples:
-            sample.settings[kind] = {group: value for group, value in sample.settings[kind].items() if group not in values}
-        samples[0].settings[kind].update(values)
-    return usage._replace(samples=samples)
+    def changed(path: str, track: Track) -> Track:
+        more = {kind: [Setting(0, values[path])] for kind, values in given.items() if path in values}
+        return replace(track, settings={**track.settings, **more}) if more else track
+
+    return with_tracks(usage, changed)
 
 
-def without_limits(usage):
+def without_limits(usage: Usage) -> Usage:
     """The same without a limit but that of the host, and without memory.high."""
-    return usage._replace(samples=[sample._replace(settings={**sample.settings, "max": {}, "high": {}})
-                                   for sample in usage.samples])
+    return with_tracks(usage, lambda _, track: replace(track, settings={
+        kind: values for kind, values in track.settings.items() if kind not in ("max", "high")}))
 
 
-def groups_with(usage, *kinds):
+def groups_with(usage: Usage, *kinds: str) -> Set[str]:
     """The groups that have one of these settings at a time."""
-    return {group for sample in usage.samples for kind in kinds for group, value in sample.settings[kind].items()
-            if value != DEFAULTS[kind]}
+    return {path for path, track in usage.tracks.items() for kind in kinds
+            if any(one.value != DEFAULTS[kind] for one in track.settings.get(kind, ()))}
 
 
-def only_below(usage, above):
+def only_below(usage: Usage, above: str) -> Usage:
     """The same of a group and those below it alone."""
-    return Usage([Sample(seconds, {group: amount for group, amount in amounts.items() if is_below(group, above)},
-                         settings_of(settings, lambda group: is_below(group, above)))
-                  for seconds, amounts, settings in usage.samples],
-                 [group for group in usage.groups if is_below(group, above) or group in path_up(above)], usage.host)
+    samples = len(usage.times)
+    return replace(usage, tracks={
+        path: track if is_below(path, above) else empty_track(samples) for path, track in usage.tracks.items()
+        if is_below(path, above) or is_below(above, path)})
 
 
-def greatest_wanted(usage):
+def in_order(usage: Usage, paths: Iterable[str]) -> Usage:
+    """The same with the groups in another order, each after its parent."""
+    return replace(usage, tracks={path: usage.tracks[path] for path in with_ancestors(paths)})
+
+
+def greatest_wanted(usage: Usage) -> Dict[str, int]:
     """Of each group the most that it and those below it had at a time."""
-    most = dict.fromkeys(usage.groups, 0)
-    for sample in usage.samples:
-        sums = dict.fromkeys(usage.groups, 0)
-        for group, amount in sample.amounts.items():
-            for above in path_up(group):
-                sums[above] += sum(amount)
-        most = {group: max(most[group], sums[group]) for group in most}
-    return most
+    samples, sums = len(usage.times), {path: array("q", [0]) * len(usage.times) for path in usage.tracks}
+    for path, track in usage.tracks.items():
+        own = [track.total(at) for at in range(samples)]
+        for above in path_up(path):
+            of_all = sums[above]
+            for at, count in enumerate(own):
+                of_all[at] += count
+    return {path: max(of_all) for path, of_all in sums.items()}
