@@ -1,10 +1,22 @@
-const MOST_CHOICES = 20, MOST_KILL_ORDER = 3; // above this order nobody is killed
+import {
+  CUT, FILES, MOST_DETAILS, MOST_ROUNDS, REFUSALS, SECONDS, SETTINGS, VALUES, blocksOf, isDigit, isGroupUnit, lineOf,
+  ownerOf, pagesOf, readOf, refused, settingOf, shownBy, sizesOf, statOf, stockOf, unitsOf
+} from "./commands.js";
+import {
+  ANSWERS, BACK, COLLECTED, DIRTY, DONE, FRESH_OUT, LAST, MARKED, MOST_CPUS, MOST_FRESH, MOST_LINE, MOST_ORDER,
+  MOST_PINS, MOST_REFERENCES, NO_BLOCK, OVER, PAGE, TOOK, cpuList, groupList, groupOf, isGroupList, orderOf
+} from "./state.js";
+import { ACTIONS } from "./steps.js";
+
+export const MOST_CHOICES = 20, MOST_KILL_ORDER = 3; // above this order nobody is killed
 /**
- * What makes a kill: the limit and the usage under it, how many pages have no room, and how many pages reclaim would free
- * besides, if memory.min spared none, if the victim's units were clean, if all below the limit were, and if these had no pins either. To find
+ * What makes a kill: the limit and the usage under it, how many pages have no room, and how many pages reclaim would
+ * free
+ * besides, if memory.min spared none, if the victim's units were clean, if all below the limit were, and if these had
+ * no pins either. To find
  * these takes a look at each unit, so it is done for the first kills only: those of the verdict.
  */
-function choiceOf(state, limited, need, victim = -1) {
+export function choiceOf(state, limited, need, victim = -1) {
   const { max, current, path } = state.groups[limited], below = victim < 0 ? [] : state.subtree(limited);
   const pages = new Map(below.map(group => [group, { clean: 0, dirty: 0, pinned: 0 }]));
   for (const list of below.flatMap(group => [groupList(group, false), groupList(group, true)])) {
@@ -13,19 +25,58 @@ function choiceOf(state, limited, need, victim = -1) {
       pages.get(groupOf(state.place[frame]))[kind] += 2 ** orderOf(state.place[frame]);
     }
   }
-  const freed = (kindsOf, isSparing = true) => state.freed(limited, below.map(group => [group, kindsOf(group).reduce((sum, kind) => sum + pages.get(group)[kind], 0)]), isSparing);
-  const choice = { path, victim: state.groups[victim]?.path, max, usage: current, need, spared: freed(() => ["clean"], false), its: freed(group => group === victim ?
-    ["clean", "dirty"] : ["clean"]), dirty: freed(() => ["clean", "dirty"]), pinned: freed(() => ["clean", "dirty", "pinned"]) };
-  choice.full = [...state.up(limited)].filter(above => above.number !== limited && state.missing(above.number, need)).map(above => above.path);
+  const freed = (kindsOf, isSparing = true) => state.freed(limited,
+    below.map(group => [group, kindsOf(group).reduce((sum, kind) => sum + pages.get(group)[kind], 0)]), isSparing);
+  const choice = { path, victim: state.groups[victim]?.path, max, usage: current, need,
+    spared: freed(() => ["clean"], false), its: freed(group => group === victim ?
+    ["clean", "dirty"] : ["clean"]), dirty: freed(() => ["clean", "dirty"]),
+    pinned: freed(() => ["clean", "dirty", "pinned"]) };
+  choice.full = [...state.up(limited)].filter(above => above.number !== limited && state.missing(above.number, need))
+    .map(above => above.path);
   return choice;
+}
+/** What is known of the line that is followed: what is due, and what its steps did. */
+class LineState {
+  /** @type {any} */ line = null;
+  isEnd = false;
+  /** @type {any} */ due = null;
+  /** @type {any[]} */ notes = [];
+  /** @type {any} */ wants = null;
+  /** @type {any} */ over = null;
+  /** @type {any} */ owed = null;
+  /** @type {any[]} */ drains = [];
+  /** @type {any} */ own = null;
+  /** @type {any} */ killing = null;
+  /** @type {any[]} */ dying = [];
+  told = 0; details = 0; more = 0; note = ""; isOpen = false; locks = 0; steps = 0; blocked = 0; isBlock = false;
+  behindUngrant = ""; took = -1; placed = -1; made = -1; isRemoved = false; isSet = false; left = ""; got = "";
+  isListed = false; granted = 0; hand = 0; unlisted = 0; passed = 0; givenBack = 0; freed = 0; limited = -1;
+  oomAt = -1; drainedFor = -1; isDraining = false; killedWhole = -1; pinsPut = 0;
 }
 /**
  * Follows a log of memcg, line by line of its script: what isn't a step (the order of a group's lists, marks and dirt)
  * follows from the commands and the manual's chapter on reclaim. Each method returns what doesn't fit, or nothing.
  */
-class Follower {
+export class Follower extends LineState {
+  /** @type {any} */ state = null;
+  /** @type {any} */ reader = null;
+  /** @type {any} */ sizes = null;
+  /** @type {any} */ plan = null;
+  /** @type {any} */ hasReasons = null;
+  /** @type {any} */ choice = null;
+  /** @type {any} */ was = null;
+  /** @type {any} */ wants = null;
+  /** @type {any} */ drained = null;
+  lacksSizes = false;
+  expected = -1;
+  number = 0;
+  seconds = -1;
+  choices = 0;
+  lastTurn = 0;
+  fresh = -1;
+  isPlaced = false;
   constructor() {
-    Object.assign(this, { state: null, reader: null, sizes: null, lacksSizes: false, line: null, isEnd: false, plan: null, expected: -1, number: 0, seconds: -1, hasReasons: null, choice: null, choices: 0, lastTurn: 0 });
+    super();
     this.sawNone = new Uint8Array(MOST_CPUS + 1); // whether the CPU saw last that its stock has no page
   }
   zone(state, reader) {
@@ -45,7 +96,7 @@ class Follower {
       this.lacksSizes ||= !this.isOurs && /^# line [0-9]+: /.test(text);
       return;
     }
-    const [, seconds] = SECONDS.exec(text) ?? [];
+    const [, seconds] = isDigit(text, 2) && SECONDS.exec(text) || [];
     if (seconds && Number(seconds) < this.seconds) return "the seconds don't ascend";
     if (seconds) this.seconds = Number(seconds);
     if (seconds || text.startsWith("# bad: ")) return this.endLine();
@@ -100,17 +151,16 @@ class Follower {
   }
   begin(line) {
     const { state } = this;
-    Object.assign(this, { line, isEnd: !line, due: null, told: 0, notes: [], details: 0, more: 0, wants: null, note: "", isOpen: false, locks: 0,
-      steps: 0, blocked: 0, isBlock: false, behindUngrant: "", over: null, owed: null, drains: [], own: null, took: -1, placed: -1,
-      made: -1, isRemoved: false, isSet: false, left: "", got: "", isListed: false, granted: 0, hand: 0, unlisted: 0, passed: 0,
-      givenBack: 0, freed: 0, limited: -1, oomAt: -1, drainedFor: -1, isDraining: false, killing: null, dying: [], killedWhole: -1, pinsPut: 0 });
+    Object.assign(this, new LineState(), { line, isEnd: !line });
     if (!line) return;
     this.number = line.number;
     const { cpu, verb, words } = line, part = state.parts[cpu], frame = Number(words[0]);
     line.order = verb === "alloc" ? Number(words[1]) : -1;
-    this.was = { list: state.count("l", cpu), fresh: state.count("n", cpu), group: part.group, isDrained: part.isDrained,
+    this.was = { list: state.count("l", cpu), fresh: state.count("n", cpu), group: part.group,
+      isDrained: part.isDrained,
       sawNone: this.sawNone[cpu], isFull: part.pinned + state.count("b", cpu) >= MOST_PINS };
-    if ("get put release".includes(verb)) Object.assign(this.was, { live: state.live[frame], pins: part.pins.get(frame) ?? 0,
+    if ("get put release".includes(verb))
+      Object.assign(this.was, { live: state.live[frame], pins: part.pins.get(frame) ?? 0,
       isFresh: state.list[frame] === cpuList("n", cpu) });
     if (verb === "release" && this.was.isFresh && part.isDrained) this.sawNone[cpu] = 0;
   }
@@ -127,7 +177,8 @@ class Follower {
   get amount() {
     const { words: [, file, value], isVague } = this.line, isSetting = SETTINGS.includes(file);
     if (!isVague) return pagesOf(value, isSetting);
-    const { log, start } = this.reader, next = log.indexOf("\n# line ", start), lines = log.slice(start, next < 0 ? log.length : next);
+    const { log, start } = this.reader, next = log.indexOf("\n# line ", start),
+      lines = log.slice(start, next < 0 ? log.length : next);
     const found = /^# asked \S+ ([0-9]+)$/m.exec(lines), isOk = /^# = ok$/m.test(lines);
     if (isSetting) return isOk ? pagesOf(value.replaceAll("?", " "), true) : null;
     return found ? Number(BigInt(found[1]) / BigInt(PAGE)) : isOk ? 0 : null;
@@ -149,7 +200,8 @@ class Follower {
     const { state } = this, told = { tried: 0, returned: 0, pages: 0 };
     let run = null;
     const close = () => {
-      if (run && this.details++ < MOST_DETAILS) this.notes.push(`# reclaimed ${run.path} ${run.first}${run.last > run.first ? `-${run.last}` : ""}`);
+      if (run && this.details++ < MOST_DETAILS)
+        this.notes.push(`# reclaimed ${run.path} ${run.first}${run.last > run.first ? `-${run.last}` : ""}`);
       else if (run) this.more += run.last - run.first + 1;
       run = null;
     };
@@ -174,22 +226,34 @@ class Follower {
       return pages;
     };
     for (const pass of state.isProtecting ? [1, 2, 3] : [1, 2]) {
-      for (const group of this.inTurn(state.subtree(top))) if (told.pages < want) yield* this.turn(top, group, pass, want - told.pages, attempt, detail);
+      for (const group of this.inTurn(state.subtree(top)))
+        if (told.pages < want) yield* this.turn(top, group, pass, want - told.pages, attempt, detail);
     }
     close();
-    this.notes.push(`# round ${number} tried ${told.tried} missed ${told.tried - told.returned} returned ${told.returned} bytes ${told.pages * PAGE} usage ${state.groups[top].current * PAGE}`);
+    this.notes.push(`# round ${number} tried ${told.tried} missed ${told.tried -
+      told.returned} returned ${told.returned} bytes ${told.pages * PAGE} usage ${state.groups[top].current * PAGE}`);
     return told.pages;
   }
-  /** The groups in the order of their turns: if turns go round, from the one on that comes after the last one that had a turn. */
+  /**
+   * The groups in the order of their turns: if turns go round, from the one on that comes after the last one that had a
+   * turn.
+   */
   inTurn(groups) {
     const last = this.lastTurn;
-    return this.sizes.isFair ? [...groups.filter(group => group > last), ...groups.filter(group => group <= last)] : groups;
+    return this.sizes.isFair ? [...groups.filter(group => group > last), ...groups.filter(group => group <= last)] :
+      groups;
   }
-  /** A group's turn in a pass: it ends at what is protected. The third pass spares what memory.min protects, and notes if it took what memory.low does. */
+  /**
+   * A group's turn in a pass: it ends at what is protected. The third pass spares what memory.min protects, and notes
+   * if it took what memory.low does.
+   */
   *turn(top, group, pass, want, attempt, detail) {
-    const { state } = this, [inactive, active] = [groupList(group, false), groupList(group, true)], { current, path } = state.groups[group];
-    const [min, low] = ["min", "low"].map(key => state.protection(key, top, group)), spared = pass === 3 ? min : Math.max(min, low);
-    const most = spared ? Math.min(want, current - spared) : want, facts = `${path} usage ${current * PAGE} min ${min * PAGE} low ${low * PAGE}`;
+    const { state } = this, [inactive, active] = [groupList(group, false), groupList(group, true)],
+      { current, path } = state.groups[group];
+    const [min, low] = ["min", "low"].map(key => state.protection(key, top, group)),
+      spared = pass === 3 ? min : Math.max(min, low);
+    const most = spared ? Math.min(want, current - spared) : want,
+      facts = `${path} usage ${current * PAGE} min ${min * PAGE} low ${low * PAGE}`;
     let freed = 0;
     if (pass === 1 && most < want && current) detail(`# spared ${facts}`);
     if (most <= 0) return;
@@ -232,14 +296,17 @@ class Follower {
     this.note = isNote ? value : "";
     this.expected = isNote ? -2 : done ? -1 : value;
   }
-  /** Rounds for each memory.high that has no room for a charge, from the group up. The note of a group is yielded before its rounds. */
+  /**
+   * Rounds for each memory.high that has no room for a charge, from the group up. The note of a group is yielded before
+   * its rounds.
+   */
   *highs(group, pages) {
     const missing = number => this.state.missing(number, pages, "high");
     for (const { number } of this.state.up(group)) {
       if (!missing(number)) continue;
       this.noteBound("high", number, pages);
       yield `note-high ${number}`;
-      yield* this.rounds(number, () => missing(number));
+      yield* this.rounds(number, () => this.wanted(missing(number), pages));
     }
   }
   lookAtHighs(group, pages) {
@@ -247,12 +314,11 @@ class Follower {
     this.go();
   }
   /** A round for a charge wants at least the batch of the boot; one for what was written wants what is missing. */
+  wanted(missing, pages) {
+    return missing && Math.max(missing, pages ? this.sizes.reclaimBatch : 1);
+  }
   wantRoom(group, pages, bound) {
-    const least = pages ? this.sizes.reclaimBatch : 1;
-    this.wants = () => this.reclaim(group, () => {
-      const missing = this.state.missing(group, pages, bound);
-      return missing && Math.max(missing, least);
-    });
+    this.wants = () => this.reclaim(group, () => this.wanted(this.state.missing(group, pages, bound), pages));
     this.drainBelow(new Set(this.state.subtree(group)));
   }
   /** The stocks of these groups have to be drained. */
@@ -261,7 +327,8 @@ class Follower {
   }
   noteBound(bound, group, pages) {
     const { [bound]: most, current, path } = this.state.groups[group];
-    this.notes.push(`# ${bound === "max" ? "limit" : bound} ${path} ${most * PAGE} usage ${current * PAGE} need ${pages * PAGE}`);
+    this.notes.push(`# ${bound === "max" ? "limit" : bound} ${path} ${most * PAGE} usage ${current *
+      PAGE} need ${pages * PAGE}`);
   }
   /** A limit has no room for a charge, or it or memory.high was written below the usage. */
   startsBound(bound, group, pages) {
@@ -283,29 +350,37 @@ class Follower {
     return frames;
   }
   chooseVictim() {
-    const { state, limited } = this, [victim, next, ...more] = state.subtree(limited).filter(group => !state.groups[group].killed)
-      .map(group => [group, this.framesOf(group)]).filter(([, frames]) => frames).sort((a, b) => b[1] - a[1] || a[0] - b[0]);
+    const { state, limited } = this, [victim, next, ...more] =
+      state.subtree(limited).filter(group => !state.groups[group].killed)
+      .map(group => [group, this.framesOf(group)]).filter(([, frames]) => frames).sort(
+      (a, b) => b[1] - a[1] || a[0] - b[0]);
     if (!victim) return;
     const path = [...state.up(victim[0])].map(group => group.number), flagged = path.slice(0, path.indexOf(limited) + 1)
       .filter(group => state.groups[group].oom_group);
     this.killedWhole = flagged.at(-1) ?? -1;
-    this.dying = flagged.length ? state.subtree(this.killedWhole).filter(group => !state.groups[group].killed) : [victim[0]];
+    this.dying = flagged.length ? state.subtree(this.killedWhole).filter(group => !state.groups[group].killed) :
+      [victim[0]];
     this.choice = choiceOf(state, limited, this.over?.pages ?? 0, ++this.choices > MOST_CHOICES ? -1 : victim[0]);
-    this.notes.push(`# victim ${state.path(victim[0])} frames ${victim[1]} of ${next ? 2 + more.length : 1} candidates${next ? `, next ${state.path(next[0])} frames ${next[1]}` : ""}`);
+    this.notes.push(`# victim ${state.path(victim[0])} frames ${victim[1]} of ${next ? 2 + more.length :
+      1} candidates${next ? `, next ${state.path(next[0])} frames ${next[1]}` : ""}`);
     if (flagged.length) this.notes.push(`# group ${state.path(this.killedWhole)} groups ${this.dying.length}`);
   }
   /** What is still to be done for a limit without room: a note that it is out of memory, or a kill. */
   get dueForRoom() {
     const { state, limited, sizes, line: { order } } = this;
-    if (limited < 0 || sizes.isNoKill || order > MOST_KILL_ORDER || !state.missing(limited, this.over?.pages ?? 0)) return "";
+    if (limited < 0 || sizes.isNoKill || order > MOST_KILL_ORDER || !state.missing(limited, this.over?.pages ?? 0))
+      return "";
     if (this.oomAt !== limited) return `note-oom ${limited}`;
     const isDead = order >= 0 && state.groups[this.group].killed;
-    return !isDead && state.subtree(limited).some(group => !state.groups[group].killed && this.framesOf(group)) ? "a kill" : "";
+    return !isDead && state.subtree(limited).some(group => !state.groups[group].killed && this.framesOf(group)) ?
+      "a kill" : "";
   }
   endKill() {
     const { group, returned, pages, pinned } = this.killing;
     this.killing = null;
-    this.notes.push(`# killed ${this.state.path(group)} returned ${returned} bytes ${pages * PAGE} pinned ${pinned} bytes ${this.framesOf(group) * PAGE} usage ${this.state.groups[this.limited].current * PAGE}`);
+    this.notes.push(`# killed ${this.state.path(group)} returned ${returned} bytes ${pages *
+      PAGE} pinned ${pinned} bytes ${this.framesOf(group) * PAGE} usage ${this.state.groups[this.limited].current *
+      PAGE}`);
     if (!this.dying.length && this.killedWhole >= 0) this.owe("group-kill", this.killedWhole);
   }
   /** The unit that the kill puts next. */
@@ -332,8 +407,10 @@ class Follower {
     if (owed && owed !== `${action} ${a}`) return `${owed} was due`;
     this.owed = null;
     if (this.isEnd) return this.fitsEnd(action, seat, reader);
-    if (this.drains.length && !seat && action !== "ungrant" && !(action === "drain" && a === this.drains[0])) return `drain ${this.drains[0]} was due`;
-    if (this.passed && !["pass-out", "take-in"].includes(action) && line.verb === "alloc" && this.passed < this.sizes.batch && state.blocks[0]) {
+    if (this.drains.length && !seat && action !== "ungrant" && !(action === "drain" && a === this.drains[0]))
+      return `drain ${this.drains[0]} was due`;
+    if (this.passed && !["pass-out", "take-in"].includes(action) && line.verb === "alloc" &&
+      this.passed < this.sizes.batch && state.blocks[0]) {
       return "pass-out was due";
     }
     if (this.plan && this.expected >= 0 && !seat && !["return", "freeze"].includes(action) &&
@@ -344,11 +421,13 @@ class Follower {
   /** At the end the pins are put, each CPU is settled, and then each gives back its list and its stock. */
   fitsEnd(action, seat, { a, b }) {
     const { state, locks } = this, { cpus, holder } = state, isLast = locks > cpus;
-    if (action === "lock") return seat === this.locks++ % cpus + 1 && locks < 2 * cpus ? null : `lock by CPU ${locks % cpus + 1} was due`;
+    if (action === "lock") return seat === this.locks++ % cpus + 1 && locks < 2 * cpus ? null :
+      `lock by CPU ${locks % cpus + 1} was due`;
     if (action === "unfreeze" && b !== 1) return "the zone has one reference";
     if (action === "drain") return isLast && a === holder && !this.steps++ ? null : "no drain was due";
     if (action === "unlock") this.steps = isLast && this.steps ? 0 : isLast ? -1 : 0;
-    const isDone = action !== "unlock" || this.steps === 0 && !(isLast && state.count("l", holder)) && !this.hand && !this.unlisted;
+    const isDone = action !== "unlock" || this.steps === 0 && !(isLast && state.count("l", holder)) && !this.hand &&
+      !this.unlisted;
     return isDone && (action !== "put" || !locks) ? null : "something is left undone";
   }
   /** What begins before this step: rounds, a kill, the end of one. */
@@ -356,7 +435,8 @@ class Follower {
     const { state, line } = this, { verb } = line;
     if (this.plan && this.expected === -1 && !this.isBlock && !["pass-out", "take-in"].includes(action)) this.go();
     if (action === "open" || seat && action !== "unlock") return;
-    const settles = ["collect", "publish", "unfreeze", "absorb"].includes(action) || action === "return" && !this.isOpen;
+    const settles = ["collect", "publish", "unfreeze", "absorb"].includes(action) ||
+      action === "return" && !this.isOpen;
     if (!settles && !this.isOpen) this.opens();
     if (this.wants && !["drain", "ungrant"].includes(action)) {
       this.wants();
@@ -364,7 +444,8 @@ class Follower {
     }
     if (this.killing && !["drain", "ungrant", "put", "return"].includes(action) && this.nextPut < 0) this.endKill();
     const part = state.parts[line.cpu];
-    if (verb === "alloc" && line.order === 0 && this.isOpen && !this.plan && !this.blocked && !state.count("l", line.cpu) &&
+    if (verb === "alloc" && line.order === 0 && this.isOpen && !this.plan && !this.blocked &&
+      !state.count("l", line.cpu) &&
       part.group === this.group && part.pages && !part.isDrained && ["freeze", "drain"].includes(action)) {
       this.blocked = 1;
       this.reclaim(0, () => state.count("l", line.cpu) ? 0 : 1, true);
@@ -410,8 +491,10 @@ class Follower {
   }
   /** Whether the step is one of this command, here. */
   fits(action) {
-    const { state, reader: { seat, a, b, c, path }, line: { cpu, verb, words, order, isVague } } = this, part = state.parts[cpu];
-    const frame = Number(words[0]), isWrite = file => verb === "write" && words[1] === file && a === this.group && !this.isSet;
+    const { state, reader: { seat, a, b, c, path }, line: { cpu, verb, words, order, isVague } } = this,
+      part = state.parts[cpu];
+    const frame = Number(words[0]),
+      isWrite = file => verb === "write" && words[1] === file && a === this.group && !this.isSet;
     const need = (holds, why = `\`${verb}\` doesn't make it`) => holds ? null : why;
     if (["get", "put", "fast"].includes(verb)) {
       return need(action === { get: "get", put: "put", fast: "consume" }[verb] && seat && a === frame && !this.steps++);
@@ -425,32 +508,39 @@ class Follower {
         return need(!due && this.isOpen && !state.count("b", cpu), due ? `${due} was due` : "the CPU isn't settled");
       }
       case "freeze":
-        return need(a === this.expected && b === 1, `${this.expected < 0 ? "no freeze" : `freeze ${this.expected} 1`} was next`);
+        return need(a === this.expected && b === 1,
+        `${this.expected < 0 ? "no freeze" : `freeze ${this.expected} 1`} was next`);
       case "unfreeze":
         return need(b === 1, "the zone has one reference");
       case "report":
         return need(a === part.unreported, `report ${part.unreported} was due`);
       case "pass-out":
-        return need(verb === "alloc" ? order === 0 && this.isOpen && this.was.list === 0 && this.passed < this.sizes.batch :
-          verb === "release" && a === frame && this.left === "last" && this.givenBack === (this.isFull ? this.sizes.batch : 0));
+        return need(verb === "alloc" ? order === 0 && this.isOpen && this.was.list === 0 &&
+        this.passed < this.sizes.batch :
+          verb === "release" && a === frame && this.left === "last" &&
+          this.givenBack === (this.isFull ? this.sizes.batch : 0));
       case "pass-back":
         return need(isGroupUnit(state, a) || (verb === "alloc" ? order > 0 && this.blocked === 1 : this.isFull));
       case "publish":
         return need(!state.list[a], "it was published");
       case "put":
-        return need(!seat && (this.killing ? a === this.nextPut : verb === "release" && a === frame), this.killing ? `put ${this.nextPut} was due` : undefined);
+        return need(!seat && (this.killing ? a === this.nextPut : verb === "release" && a === frame),
+        this.killing ? `put ${this.nextPut} was due` : undefined);
       case "credit":
         return need(verb === "release" && a === frame);
       case "consume":
         return need(isAlloc && order === 0);
       case "grant":
-        return need(isAlloc && b === (order || this.steps++ ? 2 ** order : this.sizes.stock), `\`${verb}\` doesn't charge so`);
+        return need(isAlloc && b === (order || this.steps++ ? 2 ** order : this.sizes.stock),
+        `\`${verb}\` doesn't charge so`);
       case "place":
         return need(isAlloc && b === order);
       case "fill":
-        return need(verb === "alloc" && order === 0 && a === cpu && b === this.group && c === this.granted, `\`${verb}\` doesn't fill so`);
+        return need(verb === "alloc" && order === 0 && a === cpu && b === this.group && c === this.granted,
+        `\`${verb}\` doesn't fill so`);
       case "drain":
-        return need(this.drains.length || verb === "alloc" && order === 0 && a === cpu && this.blocked && this.expected < 0);
+        return need(this.drains.length || verb === "alloc" && order === 0 && a === cpu && this.blocked &&
+        this.expected < 0);
       case "make":
         return need(verb === "mkdir" && path === words[0]);
       case "remove":
@@ -458,7 +548,8 @@ class Follower {
       case "limit":
         return need(isWrite("memory.max") && (isVague || b === pagesOf(words[2], true)), "it is another limit");
       case "flag":
-        return need(isWrite("memory.oom.group") && (isVague || `${b}` === words[2].replace(/^[ \t-\r]+|[ \t-\r]+$/g, "")), "it is another flag");
+        return need(isWrite("memory.oom.group") &&
+        (isVague || `${b}` === words[2].replace(/^[ \t-\r]+|[ \t-\r]+$/g, "")), "it is another flag");
       case "note-low":
         return need(this.note === `${action} ${a}`, "no memory.low was broken");
       case "note-high":
@@ -466,9 +557,13 @@ class Follower {
       case "note-max":
         return need(this.over && a === this.over.group, "no limit refused");
       case "note-oom":
-        return need(!this.sizes.isNoKill && a === this.limited && !this.killing && state.missing(a, this.over?.pages ?? 0), this.sizes.isNoKill ? "the boot kills nobody" : `${this.limited < 0 ? "no limit" : `group ${this.limited}`} is out of memory`);
+        return need(!this.sizes.isNoKill && a === this.limited && !this.killing &&
+        state.missing(a, this.over?.pages ?? 0),
+        this.sizes.isNoKill ? "the boot kills nobody" :
+        `${this.limited < 0 ? "no limit" : `group ${this.limited}`} is out of memory`);
       case "kill":
-        return need(!this.sizes.isNoKill && a === this.dying[0], this.dying.length ? `kill ${this.dying[0]} was due` : "no group was due");
+        return need(!this.sizes.isNoKill && a === this.dying[0],
+        this.dying.length ? `kill ${this.dying[0]} was due` : "no group was due");
       case "group-kill":
         return need(a === this.killedWhole && !this.dying.length, "no group was killed as a whole");
       case "unlock":
@@ -594,7 +689,8 @@ class Follower {
       case "place":
         if (answer === NO_BLOCK) this.owe("ungrant", a);
         else this.owe("unfreeze", n);
-        if (answer === NO_BLOCK) this.behindUngrant = this.plan && this.expected === -1 ? "go" : ++this.blocked === 2 ? "begin" : "";
+        if (answer === NO_BLOCK)
+          this.behindUngrant = this.plan && this.expected === -1 ? "go" : ++this.blocked === 2 ? "begin" : "";
         else {
           this.hand++;
           this.placed = n;
@@ -641,7 +737,8 @@ class Follower {
     }
   }
   tellDrain() {
-    this.notes.push(`# stock ${this.drained.cpu} bytes ${this.drained.pages * PAGE} usage ${this.state.groups[this.drainedFor].current * PAGE}`);
+    this.notes.push(`# stock ${this.drained.cpu} bytes ${this.drained.pages *
+      PAGE} usage ${this.state.groups[this.drainedFor].current * PAGE}`);
     this.drained = null;
   }
   /** What isn't a step: uses, dirty and clean units. */
@@ -661,21 +758,28 @@ class Follower {
 
   /** The comments due after a line: its answer and its explanation. null stands for one that can't be known. */
   answers(given) {
-    if (this.isEnd) return this.locks === 2 * this.state.cpus ? this.report() : [`lock by CPU ${this.locks % this.state.cpus + 1}`];
-    const { isCut, isVague } = this.line, isRefusal = isVague && !this.isSet && [12, 13].some(number => given === `# = ${refused(number)}`);
+    if (this.isEnd) return this.locks === 2 * this.state.cpus ? this.report() :
+      [`lock by CPU ${this.locks % this.state.cpus + 1}`];
+    const { isCut, isVague } = this.line,
+      isRefusal = isVague && !this.isSet && [12, 13].some(number => given === `# = ${refused(number)}`);
     const answer = isRefusal || isCut && given ? given.slice(4) : this.answer();
     if (this.more) this.notes.push(`# reclaimed ${this.more} more frames`);
     const lines = isCut ? [null] : answer === null ? [`a step of \`${this.line.verb}\``] :
       answer.split("\n").map(line => `# = ${line}`.slice(0, MOST_LINE));
     return [...lines, ...this.reason(answer), ...this.notes.map(note => note.slice(0, MOST_LINE))];
   }
-  /** The line that explains a refusal. Of a text that is no limit it says what the files take. A frame that isn't kept may be a CPU's. */
+  /**
+   * The line that explains a refusal. Of a text that is no limit it says what the files take. A frame that isn't kept
+   * may be a CPU's.
+   */
   reason(answer) {
     const [, number] = /^refused (\d+) /.exec(answer ?? "") ?? [], { verb, words, isCut } = this.line;
     if (!Object.hasOwn(REFUSALS, number)) return [];
     if (isCut && number === "20") return [null];
-    const isNamed = ["release", "touch", "dirty", "clean"].includes(verb), [, cpu] = number === "20" && isNamed && /^cpu (\d+)$/.exec(ownerOf(this.state, Number(words[0]))) || [];
-    const more = number === "12" ? `; ${VALUES}` : cpu ? `; it is on CPU ${cpu}'s list, or fresh there until CPU ${cpu} settles` : "";
+    const isNamed = ["release", "touch", "dirty", "clean"].includes(verb),
+      [, cpu] = number === "20" && isNamed && /^cpu (\d+)$/.exec(ownerOf(this.state, Number(words[0]))) || [];
+    const more = number === "12" ? `; ${VALUES}` :
+      cpu ? `; it is on CPU ${cpu}'s list, or fresh there until CPU ${cpu} settles` : "";
     return [`# refused ${number}: ${REFUSALS[number][1]}${more}`];
   }
   /** The answer that the steps and the state make due; null if the steps aren't those of the command. */
@@ -684,12 +788,15 @@ class Follower {
     const kept = text => own?.isKept ? text : own ? refused(20) : null;
     switch (verb) {
       case "get":
-        return this.got || (before.isFull ? refused(9) : before.live === 0 ? "zero" : before.live === MOST_REFERENCES ? "full" : null);
+        return this.got || (before.isFull ? refused(9) :
+        before.live === 0 ? "zero" : before.live === MOST_REFERENCES ? "full" : null);
       case "put":
         return this.left || (before.pins ? null : refused(21));
       case "fast":
-        return this.took >= 0 ? `frame ${this.took}` : before.fresh >= MOST_FRESH ? "fresh-full" : !before.list ? "list-empty" :
-          before.group !== this.group ? "other-group" : before.sawNone ? "no-stock" : before.isDrained ? "drained" : null;
+        return this.took >= 0 ? `frame ${this.took}` :
+        before.fresh >= MOST_FRESH ? "fresh-full" : !before.list ? "list-empty" :
+          before.group !== this.group ? "other-group" :
+          before.sawNone ? "no-stock" : before.isDrained ? "drained" : null;
       case "release":
         return this.isListed ? "listed" : kept(this.left === "last" ? "returned" : this.left || null);
       case "alloc":
@@ -722,11 +829,14 @@ class Follower {
       case "mkdir":
         return own.fault ? refused(own.fault) : this.made < 0 ? null : `group ${this.made}`;
       case "rmdir":
-        return this.isRemoved ? "ok" : words[0] === "/" ? refused(3) : own.group < 0 ? refused(6) : own.below ? refused(7) :
+        return this.isRemoved ? "ok" : words[0] === "/" ? refused(3) :
+        own.group < 0 ? refused(6) : own.below ? refused(7) :
           group.current ? refused(8) : null;
       default:
-        return own.group < 0 ? refused(6) : !Object.hasOwn(FILES, words[1]) || !own.group ? refused(10) : verb === "read" ?
-          words[1] === "memory.reclaim" ? refused(22) : words[1] === "memory.stat" ? statOf(state, own.group) : readOf(group, words[1]) :
+        return own.group < 0 ? refused(6) : !Object.hasOwn(FILES, words[1]) || !own.group ? refused(10) :
+        verb === "read" ?
+          words[1] === "memory.reclaim" ? refused(22) :
+          words[1] === "memory.stat" ? statOf(state, own.group) : readOf(group, words[1]) :
           this.written(group);
     }
   }

@@ -1,12 +1,19 @@
 // The map of the zone's frames
 
+import { isPaleIn } from "./go.js";
+import { css, fillStyled, inkOn, patternOf, rgb, sheets, styleOf } from "./paint.js";
+import { HELD_BY_ZONE, IN_HAND } from "./run.js";
+import { DIRTY, MARKED, MOST_GROUPS, UNIT, groupOf, isGroupList } from "./state.js";
+
 const MOST_CELL = 116; // pixels
 
 /**
- * How frames from `first` on are laid out. If each has 5 pixels or more, in rows: columns are a power of two. If not, in
- * tiles of 1,024 frames, and in a tile along a Z: halves, quarters and so on. Either way a block or unit is one rectangle.
+ * How frames from `first` on are laid out. If each has 5 pixels or more, in rows: columns are a power of two. If not,
+ * in
+ * tiles of 1,024 frames, and in a tile along a Z: halves, quarters and so on. Either way a block or unit is one
+ * rectangle.
  */
-function layoutOf(first, count, width, height, left, top) {
+export function layoutOf(first, count, width, height, left, top) {
   let best = null;
   for (let columns = 1; columns <= 4096; columns *= 2) {
     const rows = Math.ceil(count / columns), high = Math.min(height / rows, MOST_CELL),
@@ -35,7 +42,7 @@ function layoutOf(first, count, width, height, left, top) {
     isSmall: tiles > 0
   };
 }
-const TILE = 32; // cells along a tile's side
+export const TILE = 32; // cells along a tile's side
 function tilesOf(count, width, height) {
   const all = Math.ceil(count / TILE ** 2);
   let best = null;
@@ -61,33 +68,36 @@ for (let frame = 0; frame < TILE ** 2; frame++) {
   Z_FRAME[Z_ROW[frame] * TILE + Z_COLUMN[frame]] = frame;
 }
 /** The cell of a frame: its column and row. */
-function cellOf(layout, frame) {
+export function cellOf(layout, frame) {
   const at = frame - layout.first;
   if (!layout.isSmall) return [at % layout.columns, Math.floor(at / layout.columns)];
   const tile = at >> 10, inner = at & 1023;
   return [tile % layout.tiles * TILE + Z_COLUMN[inner], Math.floor(tile / layout.tiles) * TILE + Z_ROW[inner]];
 }
 /** The frame of a cell, -1 if there is none. */
-function frameOfCell(layout, column, row) {
+export function frameOfCell(layout, column, row) {
   if (column < 0 || column >= layout.columns || row < 0 || row >= layout.rows) return -1;
-  const at = layout.isSmall ? (Math.floor(row / TILE) * layout.tiles + Math.floor(column / TILE)) * 1024 + Z_FRAME[row % TILE *
+  const at = layout.isSmall ? (Math.floor(row / TILE) * layout.tiles + Math.floor(column / TILE)) * 1024 +
+    Z_FRAME[row % TILE *
     TILE + column % TILE] : row * layout.columns + column;
   return at < layout.count ? layout.first + at : -1;
 }
 /** How many columns and rows an aligned block has. */
 function spanOf(layout, size) {
   const order = Math.log2(size);
-  return layout.isSmall ? [2 ** Math.ceil(order / 2), 2 ** Math.floor(order / 2)] : [Math.min(size, layout.columns), Math.max(1,
+  return layout.isSmall ? [2 ** Math.ceil(order / 2), 2 ** Math.floor(order / 2)] :
+    [Math.min(size, layout.columns), Math.max(1,
     Math.ceil(size / layout.columns))];
 }
 /** The rectangle of a block that begins at an aligned frame, as far as it is in the layout. */
 function rectOf(layout, frame, size) {
   const from = Math.max(frame, layout.first), [column, row] = cellOf(layout, from),
     [columns, rows] = spanOf(layout, Math.min(size, frame + size - from, layout.isSmall ? 1024 : layout.count));
-  return [layout.left + column * layout.wide, layout.top + row * layout.high, columns * layout.wide, rows * layout.high];
+  return [layout.left + column * layout.wide, layout.top + row * layout.high, columns * layout.wide,
+    rows * layout.high];
 }
 /** The rectangles of any run of frames: those of its greatest aligned blocks. */
-function rectsOf(layout, first, last) {
+export function rectsOf(layout, first, last) {
   const rects = [], end = Math.min(last + 1, layout.first + layout.count), most = layout.isSmall ? 1024 : 2 ** 20;
   for (let frame = Math.max(first, layout.first); frame < end;) {
     let size = Math.min(frame & -frame || most, most);
@@ -97,11 +107,12 @@ function rectsOf(layout, first, last) {
   }
   return rects;
 }
-const frameAt = (layout, x, y) => frameOfCell(layout, Math.floor((x - layout.left) / layout.wide), Math.floor((y - layout.top) /
+export const frameAt = (layout, x, y) => frameOfCell(layout, Math.floor((x - layout.left) / layout.wide),
+  Math.floor((y - layout.top) /
   layout.high));
 
 /** Draws the frames, and returns how many free blocks there are and how large the greatest is. */
-function drawFrames(pen, run, layout, lit) {
+export function drawFrames(pen, run, layout, lit) {
   const head = run.headOf(layout.first), dots = layout.isSmall ? smallDots(layout, lit) : null,
     free = { blocks: 0, greatest: 0 };
   run.walk(head < 0 ? layout.first : head, layout.first + layout.count, (first, size, place) => {
@@ -117,26 +128,31 @@ function drawFrames(pen, run, layout, lit) {
 }
 
 /** One block, unit or frame of a list, with its marks. */
-function drawBlock(pen, run, layout, lit, first, size, place) {
-  const [x, y, width, height] = rectOf(layout, first, size), gap = layout.wide > 9 ? 1 : 0.5, label = layout.high >= 26 &&
+export function drawBlock(pen, run, layout, lit, first, size, place) {
+  const [x, y, width, height] = rectOf(layout, first, size), gap = layout.wide > 9 ? 1 : 0.5,
+    label = layout.high >= 26 &&
     width >= 34;
   const list = run.list(first), kept = isGroupList(list), isFresh = list > 0 && !kept && list % 3 === 2,
     group = place >= UNIT ? groupOf(place) : -1, isPale = isPaleIn(lit, first, place), name = lit?.has?.get(first),
-    isNumbered = layout.wide >= 24 && layout.high >= 26, middle = y + Math.max(Math.min(height, layout.high) / 2 + 4, isNumbered ? 24 : 0);
+    isNumbered = layout.wide >= 24 && layout.high >= 26,
+    middle = y + Math.max(Math.min(height, layout.high) / 2 + 4, isNumbered ? 24 : 0);
   if (!place) {
     pen.fillStyle = css("free");
     pen.fillRect(x, y, width, height);
     pen.strokeStyle = css("line");
     pen.lineWidth = 1;
     pen.strokeRect(x + 0.5, y + 0.5, width - 1, height - 1);
-    if (width >= 60 && height >= 12) write(pen, `free, order ${Math.log2(size)}`, x + 4, middle, css("muted"), width - 8);
+    if (width >= 60 && height >= 12)
+      write(pen, `free, order ${Math.log2(size)}`, x + 4, middle, css("muted"), width - 8);
     else if (label) write(pen, "free", x + 4, middle, css("muted"), width - 8);
   } else if (place < UNIT) {
     pen.globalAlpha = isPale ? 0.3 : 1;
     pen.fillStyle = css("lent");
     pen.fillRect(x + gap, y + gap, width - 2 * gap, height - 2 * gap);
     pen.globalAlpha = 1;
-    if (width >= 11 && height >= 10) write(pen, name ?? (label ? `CPU ${place}` : `${place}`), x + 3, middle, isPale ? css("text") : "#000000", width - 4);
+    if (width >= 11 && height >= 10)
+      write(pen, name ?? (label ? `CPU ${place}` : `${place}`), x + 3, middle, isPale ? css("text") : "#000000",
+      width - 4);
   } else {
     fillStyled(pen, styleOf(group), x + gap, y + gap, width - 2 * gap, height - 2 * gap, isPale);
     if (isFresh) {
@@ -160,19 +176,20 @@ function drawBlock(pen, run, layout, lit, first, size, place) {
   if (isNumbered)
     for (let frame = first; frame < first + size && frame < first + 64; frame++) {
       const [fx, fy] = rectOf(layout, frame, 1);
-      place >= UNIT ? plate(pen, `${frame}`, fx + 3, fy + 12, styleOf(group).color, layout.wide) : write(pen, `${frame}`, fx + 3,
+      place >= UNIT ? plate(pen, `${frame}`, fx + 3, fy + 12, styleOf(group).color, layout.wide) :
+        write(pen, `${frame}`, fx + 3,
         fy + 12, place && !isPale ? "#000000" : css("muted"), layout.wide);
     }
 }
 
-function write(pen, text, x, y, color, room) {
+export function write(pen, text, x, y, color, room) {
   pen.font = "11px system-ui, 'DejaVu Sans', sans-serif";
   pen.fillStyle = color;
   while (text.length > 1 && pen.measureText(text).width > room) text = text.slice(0, -2) + "…";
   if (pen.measureText(text).width <= room) pen.fillText(text, x, y);
 }
 /** Text over a hatching, on a ground of its own. Of a path that is too long the last name stays. */
-function plate(pen, text, x, y, color, room) {
+export function plate(pen, text, x, y, color, room) {
   pen.font = "11px system-ui, 'DejaVu Sans', sans-serif";
   if (pen.measureText(text).width > room) text = text.slice(Math.max(0, text.lastIndexOf("/")));
   while (text.length > 2 && pen.measureText(text).width > room) text = text.slice(0, -2) + "…";
@@ -183,9 +200,13 @@ function plate(pen, text, x, y, color, room) {
   pen.fillStyle = inkOn(color);
   pen.fillText(text, x, y);
 }
-/** Marks by shape: dirty a corner, marked a ring, active a bar, pinned a dot, back a ring with a cross, released a cross. */
+/**
+ * Marks by shape: dirty a corner, marked a ring, active a bar, pinned a dot, back a ring with a cross, released a
+ * cross.
+ */
 function drawMarks(pen, run, layout, head, x, y, width, height, kept, list) {
-  const flags = run.flags(head), unit = Math.min(layout.wide, layout.high), size = Math.max(3, Math.min(9, unit * 0.28)),
+  const flags = run.flags(head), unit = Math.min(layout.wide, layout.high),
+    size = Math.max(3, Math.min(9, unit * 0.28)),
     pins = run.pinsOn(head);
   const two = draw => {
     pen.lineWidth = size / 2.2 + 2;
@@ -260,7 +281,8 @@ function smallDots(layout, lit) {
     return alpha * 2 ** 24 + b * 65536 + g * 256 + r;
   };
   const free = word(css("free")), [pale, full] = [90, 255].map(alpha => word(css("lent"), alpha)),
-    [pales, fulls] = [55, 255].map(alpha => Array.from({ length: 64 }, (_, group) => word(styleOf(group).color, alpha)));
+    [pales, fulls] = [55, 255].map(alpha => Array.from({ length: MOST_GROUPS },
+    (_, group) => word(styleOf(group).color, alpha)));
   let area = null;
   const add = (first, size, place) => {
     const group = place >= UNIT ? groupOf(place) : place ? -2 : -1, isPale = isPaleIn(lit, first, place);
@@ -280,7 +302,7 @@ function drawSmall(pen, run, layout, lit, {
   image,
   areas
 }) {
-  const sheet = drawSmall.sheet ??= document.createElement("canvas");
+  const sheet = sheets.small ??= document.createElement("canvas");
   sheet.width = layout.columns;
   sheet.height = layout.rows;
   sheet.getContext("2d").putImageData(image, 0, 0);
@@ -335,6 +357,7 @@ function drawAreas(pen, run, layout, lit, areas) {
       width,
       height
     }] of greatest)
-    if (width >= 22 && height >= 4) plate(pen, run.path(group), x + 4, y + height / 2 + 4, styleOf(group).color, Math.max(width -
+    if (width >= 22 && height >= 4)
+    plate(pen, run.path(group), x + 4, y + height / 2 + 4, styleOf(group).color, Math.max(width -
       8, 22));
 }

@@ -1,21 +1,34 @@
 // The lines of a log, and the run of its steps
 
+import { reasonOf } from "./reasons.js";
+import {
+  ANSWERS, ANSWER_CODES, MOST_CPUS, MOST_FRAMES, MOST_GROUPS, MOST_LINE, MOST_NUMBER, MOST_ORDER, State
+} from "./state.js";
+import { ACTIONS, ACTION_CODES, answerTo } from "./steps.js";
+
 const [SPACE, HASH, DIGIT] = [32, 35, 48];
 
 /** Why a text that is that of no line is none. */
 const noLine = text => text.startsWith("\xef\xbb\xbf") ? "it begins with a UTF-8 byte order mark: a log is plain ASCII"
   : text.startsWith("\x1f\x8b") ? "it looks like gzip: a log is plain ASCII"
   : text.includes("\0") ? "it looks like UTF-16: a log is plain ASCII"
-  : text.endsWith("\r") ? "it ends with a carriage return: the log has Windows line ends" : "it is neither a step nor sizes";
+  : text.endsWith("\r") ? "it ends with a carriage return: the log has Windows line ends" :
+  "it is neither a step nor sizes";
 
 /**
- * Reads the lines of a log, a text with a character for each byte. `next` says what a line is, and leaves what it holds in
+ * Reads the lines of a log, a text with a character for each byte. `next` says what a line is, and leaves what it holds
+ * in
  * the fields.
  */
 class Reader {
+  why = "";
+  path = "";
+  isSized = false;
+  at = 0; line = 0; start = 0; end = 0; to = 0; from = 0; until = 0; value = 0; frames = 0; cpus = 0;
+  seat = 0; action = 0; a = 0; b = 0; c = 0; answer = 0; n = 0; m = 0;
+  /** @param {string} log */
   constructor(log) {
-    Object.assign(this, { log, why: "", at: 0, line: 0, start: 0, end: 0, to: 0, from: 0, until: 0, value: 0, isSized: false, frames: 0,
-      cpus: 0, seat: 0, action: 0, a: 0, b: 0, c: 0, path: "", answer: 0, n: 0, m: 0 });
+    this.log = log;
   }
   /** "zone", "step", "comment", "empty", "bad" or "end". */
   next() {
@@ -43,7 +56,9 @@ class Reader {
   get text() {
     return this.log.slice(this.start, this.end);
   }
-  /** The next word is from `from` until `until`. It has a byte or more, and one space after it or the end of the line. */
+  /**
+   * The next word is from `from` until `until`. It has a byte or more, and one space after it or the end of the line.
+   */
   word() {
     const from = this.to;
     let until = from;
@@ -104,7 +119,8 @@ class Reader {
     return true;
   }
   zone() {
-    const { frames, cpus } = this, isZone = this.name() === "zone" && this.parts("nn", ["frames", "cpus"]) && this.to === this.end &&
+    const { frames, cpus } = this,
+      isZone = this.name() === "zone" && this.parts("nn", ["frames", "cpus"]) && this.to === this.end &&
       this.frames >= 1 && this.frames <= MOST_FRAMES && this.cpus >= 1 && this.cpus <= MOST_CPUS;
     if (this.isSized) Object.assign(this, { frames, cpus });
     this.isSized ||= isZone;
@@ -124,10 +140,11 @@ class Reader {
 /**
  * Reads a log and runs its steps. It yields before each line, so that who calls can stop between them, and returns the
  * verdict: its status and words are those of `memcg check`, but that a log of memcg is also held to what it says beside
- * its steps. `seen` is told of the sizes by `zone(state, reader)`, of each step by `before()` and `after()`, of a comment by
+ * its steps. `seen` is told of the sizes by `zone(state, reader)`, of each step by `before()` and `after()`, of a
+ * comment by
  * `comment()`, and of the end by `end()`. What doesn't fit is returned by `before`, `comment` and `end`.
  */
-function* run(log, seen = {}) {
+export function* run(log, seen = {}) {
   const reader = new Reader(log);
   let state = null, steps = 0;
   const verdict = (status, text) => ({ status, text, line: reader.line, steps });
@@ -142,7 +159,7 @@ function* run(log, seen = {}) {
     else if (kind === "end") fault = seen.end?.();
     else if (kind === "step") {
       steps++;
-      const misfit = seen.before?.(), due = state.step(reader);
+      const misfit = seen.before?.(), due = answerTo(state, reader);
       if (due !== reader.answer || state.n !== reader.n || state.m !== reader.m) {
         fault = `step ${steps} is not legal: ${state.answerText(due)} was due: ${reasonOf(state, reader, due)}`;
       } else if (misfit) fault = `step ${steps} doesn't fit: ${misfit}`;

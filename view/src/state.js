@@ -1,47 +1,56 @@
-// The rules of docs/LOG.md. This part needs no page: it reads a log, says whether each step is legal, and follows what a
+// The rules of docs/LOG.md. This part needs no page: it reads a log, says whether each step is legal, and follows what
+// a
 // log of memcg says beside its steps. The tests run it alone.
 
-const PAGE = 4096, MOST_LINE = 1024, MOST_NUMBER = 2 ** 32 - 1, MOST_FRAMES = 1048576, MOST_CPUS = 64;
-const MOST_PINS = 256, MOST_REFERENCES = 255, MOST_FRESH = 32, MOST_GROUPS = 64, MOST_DEPTH = 8, MOST_ORDER = 10;
+export const PAGE = 4096, MOST_LINE = 1024, MOST_NUMBER = 2 ** 32 - 1, MOST_FRAMES = 1048576, MOST_CPUS = 64;
+export const MOST_PINS = 256, MOST_REFERENCES = 255, MOST_FRESH = 32, MOST_GROUPS = 64, MOST_DEPTH = 8, MOST_ORDER = 10;
 
 // Answers. Their numbers: n has 32 bits, w 64, g is a group, k an order.
-const ANSWERS = [["illegal", ""], ["done", ""], ["held", ""], ["full", ""], ["zero", ""], ["left", "n"], ["last", ""],
+export const ANSWERS = [["illegal", ""], ["done", ""], ["held", ""], ["full", ""], ["zero", ""], ["left", "n"],
+  ["last", ""],
   ["missed", ""], ["other-group", ""], ["drained", ""], ["took", ""], ["empty", ""], ["back", ""], ["pages", "w"],
   ["granted", ""], ["over", "g"], ["placed", "nk"], ["no-block", ""], ["number", "g"]];
-const [ILLEGAL, DONE, HELD, FULL, ZERO, LEFT, LAST, MISSED, OTHER_GROUP, DRAINED, TOOK, EMPTY, BACK, PAGES, GRANTED, OVER,
+export const [ILLEGAL, DONE, HELD, FULL, ZERO, LEFT, LAST, MISSED, OTHER_GROUP, DRAINED, TOOK, EMPTY, BACK, PAGES,
+  GRANTED, OVER,
   PLACED, NO_BLOCK, NUMBER] = ANSWERS.keys();
 /** A map from words to codes. It has no word but its own: `constructor` is none. */
-const codesOf = table => new Map(table.map(([word], code) => [word, code]));
-const ANSWER_CODES = codesOf(ANSWERS);
+export const codesOf = table => new Map(table.map(([word], code) => [word, code]));
+export const ANSWER_CODES = codesOf(ANSWERS);
 
 // A place is one number: 0 free, 1 to 64 lent to that CPU, from UNIT on the head of a unit, with its group and order.
-const UNIT = 128;
-const placeOf = (group, order) => UNIT + group * 16 + order;
-const groupOf = place => (place - UNIT) >> 4, orderOf = place => place & 15;
+export const UNIT = 128;
+export const placeOf = (group, order) => UNIT + group * 16 + order;
+export const groupOf = place => (place - UNIT) >> 4, orderOf = place => place & 15;
 // A list is one number, too: three of each CPU (its list, fresh and back frames), two of each group; 0 is none.
-const cpuList = (kind, cpu) => (cpu - 1) * 3 + { l: 1, n: 2, b: 3 }[kind];
-const FIRST_GROUP_LIST = 3 * MOST_CPUS + 1, LISTS = FIRST_GROUP_LIST + 2 * MOST_GROUPS;
-const groupList = (group, isActive) => FIRST_GROUP_LIST + 2 * group + (isActive ? 1 : 0);
-const isGroupList = list => list >= FIRST_GROUP_LIST;
+export const cpuList = (kind, cpu) => (cpu - 1) * 3 + { l: 1, n: 2, b: 3 }[kind];
+export const FIRST_GROUP_LIST = 3 * MOST_CPUS + 1, LISTS = FIRST_GROUP_LIST + 2 * MOST_GROUPS;
+export const groupList = (group, isActive) => FIRST_GROUP_LIST + 2 * group + (isActive ? 1 : 0);
+export const isGroupList = list => list >= FIRST_GROUP_LIST;
 // Where a lent frame is, or what became of a unit, kept at its head.
-const [NOTHING, IN, LISTED, OUT, BARE, FRESH, FRESH_OUT, COLLECTED, IN_USE, LAST_PUT, LAST_PUT_OUT, ENDED] = Array(12).keys();
-const DIRTY = 1, MARKED = 2;
+export const [NOTHING, IN, LISTED, OUT, BARE, FRESH, FRESH_OUT, COLLECTED, IN_USE, LAST_PUT, LAST_PUT_OUT, ENDED] =
+  Array(12).keys();
+export const DIRTY = 1, MARKED = 2;
 // The numbers of a group, as the page draws them.
-const ROW = ["number", "max", "current", "peak", "max_events", "oom_events", "kill_events", "max_local", "oom_local",
-  "kill_local", "killed", "oom_group", "group_kill_events", "group_kill_local", "high", "low_events", "low_local", "high_events", "high_local", "low", "min"];
+export const ROW = ["number", "max", "current", "peak", "max_events", "oom_events", "kill_events", "max_local",
+  "oom_local",
+  "kill_local", "killed", "oom_group", "group_kill_events", "group_kill_local", "high", "low_events", "low_local",
+  "high_events", "high_local", "low", "min"];
 
 /** The frames, CPUs and groups, as the steps made them. Nothing is written for the frames behind a unit's head. */
-class State {
+export class State {
+  holder = 0; visit = 0; transit = 0; pending = 0; lent = 0; births = 0; effort = 0;
+  puts = 0; freezes = 0; drops = 0; returns = 0; n = 0; m = 0;
   constructor(frames, cpus) {
-    Object.assign(this, { frames, cpus, holder: 0, visit: 0, transit: 0, pending: 0, lent: 0, births: 0, effort: 0 });
-    Object.assign(this, { puts: 0, freezes: 0, drops: 0, returns: 0, n: 0, m: 0 });
+    this.frames = frames;
+    this.cpus = cpus;
     this.place = new Uint16Array(frames);
     this.stage = new Uint8Array(frames);
     this.live = new Uint8Array(frames); // references in all
     this.kept = new Uint8Array(frames); // of these, those of seat 0
     this.flags = new Uint8Array(frames);
     // How many halves of each aligned block are wholly free, and how many blocks of each order are.
-    this.halves = Array.from({ length: MOST_ORDER + 1 }, (_, order) => order ? new Uint8Array(frames >> order).fill(2) : null);
+    this.halves = Array.from({ length: MOST_ORDER + 1 },
+      (_, order) => order ? new Uint8Array(frames >> order).fill(2) : null);
     this.blocks = Array.from({ length: MOST_ORDER + 1 }, (_, order) => frames >> order);
     // A frame is on one list at most: so one link to the next and one to the frame before it serve all lists.
     this.list = new Uint16Array(frames);
@@ -58,12 +67,13 @@ class State {
     this.groups = new Array(MOST_GROUPS).fill(null);
     this.numbers = new Map();
     this.passer = new Map(); // whose frame is in transit back
-    // What changed since the page looked last.
-    this.touched = { frames: [], lists: new Set(), cpus: new Set(), groups: new Set(), pins: [] };
+    // What changed since the page looked last; of groups in `usages` no more than usage, peak and own frames.
+    this.touched = { frames: [], lists: new Set(), cpus: new Set(), usages: new Set(), groups: new Set(), pins: [] };
     this.born("/", 0, -1);
   }
   born(path, number, parent) {
-    this.groups[number] = { ...Object.fromEntries(ROW.map(name => [name, 0])), number, max: -1, high: -1, path, parent, below: 0, pending: 0,
+    this.groups[number] = { ...Object.fromEntries(ROW.map(name => [name, 0])), number, max: -1, high: -1, path, parent,
+      below: 0, pending: 0,
       frames: 0, birth: ++this.births };
     if (parent >= 0) this.groups[parent].below++;
     this.numbers.set(path, number);
@@ -139,7 +149,8 @@ class State {
     return frame % 2 ** order === 0 && frame + 2 ** order <= this.frames && isWhole && this.headOf(frame) < 0;
   }
   isGreatestBlock(frame, order) {
-    return this.isFreeBlock(frame, order) && !(order < MOST_ORDER && this.isFreeBlock(frame & ~(2 ** order), order + 1));
+    return this.isFreeBlock(frame, order) &&
+      !(order < MOST_ORDER && this.isFreeBlock(frame & ~(2 ** order), order + 1));
   }
   *freeBlocks(least = 0) {
     for (let order = least; order <= MOST_ORDER; order++) {
@@ -152,7 +163,7 @@ class State {
   charged(frame, group, order, stage) {
     this.set(frame, placeOf(group, order), stage);
     this.groups[group].frames += 2 ** order;
-    this.touched.groups.add(group);
+    this.touched.usages.add(group);
   }
   ended(frame) {
     this.live[frame] = this.kept[frame] = 0;
@@ -172,10 +183,10 @@ class State {
     for (; group >= 0; group = this.groups[group].parent) yield this.groups[group];
   }
   charge(group, pages) {
-    for (const above of this.up(group)) {
+    for (let above = this.groups[group]; above; above = this.groups[above.parent]) {
       above.current += pages;
       if (above.current > above.peak) above.peak = above.current;
-      this.touched.groups.add(above.number);
+      this.touched.usages.add(above.number);
     }
   }
   /** Pages become pending for a group, or no longer are. */
@@ -193,22 +204,30 @@ class State {
     const { [key]: most, current } = this.groups[group];
     return most < 0 ? current : Math.min(current, most);
   }
-  /** How many of a group's pages `low` or `min` protects from a reclaim of the subtree of `top`, which has the group. */
+  /**
+   * How many of a group's pages `low` or `min` protects from a reclaim of the subtree of `top`, which has the group.
+   */
   protection(key, top, group) {
     const { [key]: most, current, parent } = this.groups[group];
     if (group === top) return 0;
     if (parent === top) return most < 0 ? MOST_NUMBER : most;
     const above = this.protection(key, top, parent), claim = this.claim(group, key);
-    const claims = this.groups.reduce((sum, each) => each?.parent === parent ? sum + this.claim(each.number, key) : sum, 0);
+    const claims = this.groups.reduce((sum, each) => each?.parent === parent ? sum + this.claim(each.number, key) : sum,
+      0);
     if (claims > above) return Math.floor(claim * above / claims);
-    const rest = claim < current ? Math.floor((above - claims) * (current - claim) / (this.groups[parent].current - claims)) : 0;
+    const rest = claim < current ?
+      Math.floor((above - claims) * (current - claim) / (this.groups[parent].current - claims)) : 0;
     return Math.min(claim + rest, above);
   }
-  /** How many pages reclaim frees below `top`, if it can free so many of each of its groups: it spares what memory.min protects, or nothing. */
+  /**
+   * How many pages reclaim frees below `top`, if it can free so many of each of its groups: it spares what memory.min
+   * protects, or nothing.
+   */
   freed(top, pages, isSparing) {
     const usages = this.groups.map(group => group?.current), before = this.groups[top].current;
     for (const [group, most] of pages) {
-      const count = Math.min(most, Math.max(0, this.groups[group].current - (isSparing ? this.protection("min", top, group) : 0)));
+      const count = Math.min(most, Math.max(0,
+        this.groups[group].current - (isSparing ? this.protection("min", top, group) : 0)));
       for (const above of this.up(group)) above.current -= count;
     }
     const freed = before - this.groups[top].current;
@@ -228,40 +247,32 @@ class State {
   /** Why no group of this path may be made, as the number of a refusal; 0 if it may. */
   makeFault(path) {
     const names = path.slice(1).split("/");
-    if (path.length > 512 || path[0] !== "/" || names.some(name => !/^[!-.0-~]{1,255}$/.test(name) || /^\.\.?$/.test(name))) return 3;
+    if (path.length > 512 || path[0] !== "/" ||
+      names.some(name => !/^[!-.0-~]{1,255}$/.test(name) || /^\.\.?$/.test(name))) return 3;
     if (names.length > MOST_DEPTH) return 5;
     if (this.numbers.has(path)) return 2;
     return this.numbers.has(parentPath(path)) ? this.numbers.size === MOST_GROUPS ? 4 : 0 : 1;
   }
+  isBelow(group, top) {
+    while (group >= 0 && group !== top) group = this.groups[group].parent;
+    return group >= 0;
+  }
   subtree(top) {
-    return this.groups.filter(group => group && [...this.up(group.number)].some(above => above.number === top))
-      .map(group => group.number);
+    return this.groups.filter(group => group && this.isBelow(group.number, top)).map(group => group.number);
   }
   path(group) {
     return this.groups[group].path;
   }
 
-  /**
-   * The answer due to a step, whose numbers are then in `n` and `m`. If it is the answer that was given, the step takes
-   * effect.
-   */
-  step(step) {
-    const [, seat, , rule] = ACTIONS[step.action];
-    this.n = this.m = 0;
-    this.effort++;
-    if (step.seat > this.cpus || (step.seat ? seat === "0" : seat === "cpu" || !this.holder)) return ILLEGAL;
-    if (step.seat) this.touched.cpus.add(step.seat);
-    return rule(this, step, step.seat ? this.parts[step.seat] : null);
-  }
   answerText(answer) {
     return [ANSWERS[answer][0], this.n, this.m].slice(0, 1 + ANSWERS[answer][1].length).join(" ");
   }
 }
-function headIn(places, frame) {
+export function headIn(places, frame) {
   for (let order = 0; order <= MOST_ORDER; order++) {
     const head = frame & -(2 ** order), place = places[head];
     if (place >= UNIT ? orderOf(place) >= order : place > 0 && order === 0) return head;
   }
   return -1;
 }
-const parentPath = path => path.slice(0, path.lastIndexOf("/")) || "/";
+export const parentPath = path => path.slice(0, path.lastIndexOf("/")) || "/";

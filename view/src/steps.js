@@ -1,6 +1,15 @@
 // Each action: its name, its seat, its numbers (as those of answers; l is a limit, f a flag, p a path), and its rule. A
-// rule says what answer is due, and takes effect if that answer was given: `on` is the state, `cpu` the part of its seat.
-const ACTIONS = [
+// rule says what answer is due, and takes effect if that answer was given: `on` is the state, `cpu` the part of its
+// seat.
+
+import {
+  BACK, BARE, COLLECTED, DONE, DRAINED, EMPTY, ENDED, FRESH, FRESH_OUT, FULL, GRANTED, HELD, ILLEGAL, IN, IN_USE,
+  LAST, LAST_PUT, LEFT, LISTED, MISSED, MOST_FRESH, MOST_PINS, MOST_REFERENCES, NO_BLOCK, NUMBER, OTHER_GROUP, OUT,
+  OVER, PAGES, PLACED, TOOK, ZERO, codesOf, cpuList, groupOf, orderOf, parentPath
+} from "./state.js";
+
+/** @type {[string, string, string, (on: any, step: any, cpu: any) => number][]} */
+export const ACTIONS = [
   ["lock", "cpu", "", (on, { seat, answer }) => {
     if (on.holder) return ILLEGAL;
     if (answer === DONE) on.holder = seat;
@@ -57,7 +66,8 @@ const ACTIONS = [
     return due;
   }],
   ["unfreeze", "0", "nn", (on, { a, b, answer }) => {
-    if (a >= on.frames || b < 1 || b > MOST_REFERENCES || ![BARE, COLLECTED, ENDED].includes(on.stage[a])) return ILLEGAL;
+    if (a >= on.frames || b < 1 || b > MOST_REFERENCES || ![BARE, COLLECTED, ENDED].includes(on.stage[a]))
+      return ILLEGAL;
     if (answer === DONE) {
       on.live[a] = on.kept[a] = b;
       on.set(a, on.place[a], IN_USE);
@@ -127,7 +137,7 @@ const ACTIONS = [
       cpu.pages++;
       on.lent++;
       on.groups[groupOf(on.place[a])].frames--;
-      on.touched.groups.add(groupOf(on.place[a]));
+      on.touched.usages.add(groupOf(on.place[a]));
       on.remove(a);
       on.add(cpuList("l", seat), a);
       on.set(a, seat, LISTED);
@@ -255,8 +265,20 @@ const ACTIONS = [
     return due;
   }],
 ];
-const ACTION_CODES = codesOf(ACTIONS);
+export const ACTION_CODES = codesOf(ACTIONS);
 
+/**
+ * The answer due to a step, whose numbers are then in `n` and `m` of the state. If it is the answer that was given, the
+ * step takes effect.
+ */
+export function answerTo(on, step) {
+  const [, seat, , rule] = ACTIONS[step.action];
+  on.n = on.m = 0;
+  on.effort++;
+  if (step.seat > on.cpus || (step.seat ? seat === "0" : seat === "cpu" || !on.holder)) return ILLEGAL;
+  if (step.seat) on.touched.cpus.add(step.seat);
+  return rule(on, step, step.seat ? on.parts[step.seat] : null);
+}
 function pin(on, seat, frame, by) {
   const cpu = on.parts[seat], pins = (cpu.pins.get(frame) ?? 0) + by;
   if (pins) cpu.pins.set(frame, pins);

@@ -1,18 +1,18 @@
 // A line in plain words.
 
+import { memoryOf, memoryText } from "./amounts.js";
+import { REFUSALS, SETTINGS, pagesOf, wordsOf } from "./commands.js";
+import { page } from "./page.js";
+
 const THOUSANDS = new Intl.NumberFormat("en"); // one for all: to make one takes longer than to draw a row
-const grouped = number => THOUSANDS.format(number);
-const plural = (count, one, many = one + "s") => `${grouped(count)} ${count === 1 ? one : many}`;
-const inPages = bytes => Number(bytes) / PAGE;
-const KiBText = bytes => `${grouped(Number(bytes) / 1024)} KiB`;
-const bytesText = bytes => `${pagesText(inPages(bytes))}, ${KiBText(bytes)}`;
-const pagesText = pages => plural(pages, "page");
-const framesText = (first, last) => first === last ? `frame ${first}` :
+export const grouped = number => THOUSANDS.format(number);
+export const plural = (count, one, many = one + "s") => `${grouped(count)} ${count === 1 ? one : many}`;
+export const framesText = (first, last) => first === last ? `frame ${first}` :
   `frames ${first} ${last === first + 1 ? "and" : "to"} ${last}`;
-const limitText = (pages, none = "no limit") => pages < 0 ? none : pagesText(pages);
-const listed = words => words.length < 2 ? words.join("") : `${words.slice(0, -1).join(", ")} and ${words.at(-1)}`;
-const spaced = text => text && ` ${text}`;
-const capital = text => text.charAt(0).toUpperCase() + text.slice(1);
+export const listed = words => words.length < 2 ? words.join("") :
+  `${words.slice(0, -1).join(", ")} and ${words.at(-1)}`;
+export const spaced = text => text && ` ${text}`;
+export const capital = text => text.charAt(0).toUpperCase() + text.slice(1);
 
 const FAST_WORDS = {
   "list-empty": "its list is empty",
@@ -34,7 +34,7 @@ const FILE_WORDS = {
 };
 
 /** What the command asks for. */
-function askedWords(command) {
+export function askedWords(command) {
   const [verb, first, second, value] = wordsOf(command), order = Number(second);
   switch (verb) {
     case "mkdir":
@@ -56,7 +56,8 @@ function askedWords(command) {
       return order === 0 ? `asks for a frame for ${first}` :
         `asks for a block of ${grouped(2 ** Math.min(order, 31))} frames for ${first}`;
     case "fast":
-      return `asks for a frame for group ${first}${page.run.life(Number(first)) ? ` (${page.run.path(Number(first))})` : ""}, without the lock or not at all`;
+      return `asks for a frame for group ${first}${page.run.life(Number(first)) ? ` (${page.run.path(Number(first))})` :
+      ""}, without the lock or not at all`;
     case "release":
       return `releases frame ${first}`;
     case "get":
@@ -89,29 +90,40 @@ function askedWords(command) {
 function amountText(value) {
   const pages = pagesOf(value, true);
   return pages === -1 ? "max" : pages === null || pages === undefined ? JSON.stringify(value) :
-    `${pagesText(pages)} (${grouped(pages * 4)} KiB)`;
+    memoryText(pages);
 }
 
 /** Of each command, what its answers mean. An answer of another form means nothing. */
 const ANSWERED = {
   mkdir: [[/^group (\d+)$/, group => `The group has number ${group}.`]],
   rmdir: [[/^ok$/, () => "The group is gone."]],
-  fast: [[/^frame (\d+)$/, head => `It gets frame ${head}.`], [/^([a-z-]+)$/, why => Object.hasOwn(FAST_WORDS, why) ? `It gets none, since ${FAST_WORDS[why]}.` : ""]],
-  get: [[/^held$/, () => "It has the pin."], [/^zero$/, () => "It gets none: the frame has no reference yet."], [/^full$/, () => "It gets none: the frame has 255 references."]],
-  put: [[/^last$/, () => "That was the last reference. The unit is freed when this CPU settles."], [/^left (\d+)$/, left => `${plural(Number(left), "reference")} ${left === "1" ? "is" : "are"} left.`]],
-  release: [[/^listed$/, () => "It was fresh, and is on the CPU's list again."], [/^returned$/, () => "No reference is left: it is freed."],
-    [/^left (\d+)$/, left => `${plural(Number(left), "pin")} ${left === "1" ? "is" : "are"} left, so it stays charged.`]],
-  touch: [[/^marked$/, () => "It is marked: reclaim will spare it once."], [/^active$/, () => "It is the newest active unit."]],
-  owner: [[/^free$/, () => "It is free."], [/^cpu (\d+)$/, cpu => `It is on the list of CPU ${cpu}, or fresh there.`], [/^(\/\S*)$/, path => `It is charged to ${path}.`]]
+  fast: [[/^frame (\d+)$/, head => `It gets frame ${head}.`],
+  [/^([a-z-]+)$/, why => Object.hasOwn(FAST_WORDS, why) ? `It gets none, since ${FAST_WORDS[why]}.` : ""]],
+  get: [[/^held$/, () => "It has the pin."], [/^zero$/, () => "It gets none: the frame has no reference yet."],
+  [/^full$/, () => "It gets none: the frame has 255 references."]],
+  put: [[/^last$/, () => "That was the last reference. The unit is freed when this CPU settles."],
+  [/^left (\d+)$/, left => `${plural(Number(left), "reference")} ${left === "1" ? "is" : "are"} left.`]],
+  release: [[/^listed$/, () => "It was fresh, and is on the CPU's list again."],
+  [/^returned$/, () => "No reference is left: it is freed."],
+    [/^left (\d+)$/,
+    left => `${plural(Number(left), "pin")} ${left === "1" ? "is" : "are"} left, so it stays charged.`]],
+  touch: [[/^marked$/, () => "It is marked: reclaim will spare it once."],
+  [/^active$/, () => "It is the newest active unit."]],
+  owner: [[/^free$/, () => "It is free."], [/^cpu (\d+)$/, cpu => `It is on the list of CPU ${cpu}, or fresh there.`],
+  [/^(\/\S*)$/, path => `It is charged to ${path}.`]]
 };
 /** What the answer means. */
-function answeredWords(line) {
-  const [verb, first, second] = wordsOf(line.command), { answer } = line, [, number, path] = /^refused (\d+) \w+ ?(\S*)/.exec(answer) ?? [];
-  if (number) return `Refused: ${(line.reason || REFUSALS[number]?.[1] || answer).replace(/of a group$/, `of ${path}`)}.`;
-  if (verb === "read") return Object.hasOwn(FILE_WORDS, second) && /^\d+$/.test(answer) && second !== "memory.oom.group" ?
-    `${capital(FILE_WORDS[second])} of ${first}: ${grouped(Number(answer))} bytes, ${pagesText(Number(answer) / PAGE)}.` : "";
+export function answeredWords(line) {
+  const [verb, first, second] = wordsOf(line.command), { answer } = line,
+    [, number, path] = /^refused (\d+) \w+ ?(\S*)/.exec(answer) ?? [];
+  if (number)
+    return `Refused: ${(line.reason || REFUSALS[number]?.[1] || answer).replace(/of a group$/, `of ${path}`)}.`;
+  if (verb === "read")
+    return Object.hasOwn(FILE_WORDS, second) && /^\d+$/.test(answer) && second !== "memory.oom.group" ?
+    `${capital(FILE_WORDS[second])} of ${first}: ${memoryOf(answer)}.` : "";
   const [, head] = verb === "alloc" && /^[0-9]$|^10$/.test(second) && /^frame (\d+)$/.exec(answer) || [];
   if (head) return `It gets ${framesText(Number(head), Number(head) + 2 ** Number(second) - 1)}.`;
-  for (const [form, said] of Object.hasOwn(ANSWERED, verb) ? ANSWERED[verb] : []) if (form.test(answer)) return said(...form.exec(answer).slice(1));
+  for (const [form, said] of Object.hasOwn(ANSWERED, verb) ? ANSWERED[verb] : [])
+    if (form.test(answer)) return said(...form.exec(answer).slice(1));
   return "";
 }
