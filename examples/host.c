@@ -4,21 +4,22 @@
 #include <string.h>
 #include <tempolemon.h>
 
-#define BYTES(text) (const uint8_t *)(text), strlen(text)
+#define BYTES(text) (text), strlen(text)
 
 static tempolemon_handle host;
 static tempolemon_result result;
 
 static void ask(uint8_t status, const char *what) {
     if (status == TEMPOLEMON_DONE) return;
-    fprintf(stderr, "%s: status %u\n", what, status);
+    fprintf(stderr, "%s: %s (%u)\n", what, tempolemon_status_text(status), status);
     exit(EXIT_FAILURE);
 }
 
 int main(void) {
     const tempolemon_sizes sizes = {.frames = 64, .cpus = 2, .batch = 4, .high = 8, .stock = 4};
     tempolemon_report report;
-    uint8_t status, text[256];
+    uint8_t status;
+    char text[256];
 
     ask(tempolemon_boot(&sizes, &host), "boot");
     ask(tempolemon_mkdir(&host, 1, BYTES("/web"), &result), "mkdir");
@@ -32,7 +33,7 @@ int main(void) {
     }
     printf("refused %u\n", status);
     ask(tempolemon_read(&host, 1, BYTES("/web"), BYTES("memory.current"), text, sizeof text, &result), "read");
-    printf("%.*s", (int)result.number, (const char *)text);
+    printf("%.*s", (int)result.number, text);
 
     ask(tempolemon_end(&host, &report), "end");
     printf("%u of %u frames were charged\n", report.charged, report.frames);

@@ -5,7 +5,7 @@
 import tempolemon
 
 
-def main():
+def main() -> None:
     with tempolemon.Zone(frames=64, cpus=2, batch=4, high=8, stock=4) as zone:
         with zone.take(1) as cpu:
             web = cpu.mkdir("/web")

@@ -31,9 +31,7 @@
 #endif
 
 enum { MOST_THREADS = 32, FRAMES = 16384, PAGE = 4096, SHELF = 64, MOST_BLOCKS = 32 };
-enum { NO_FRAMES = 16, WAS_KILLED = 18 }; /* refusals of an allocation, besides TEMPOLEMON_OVER_LIMIT */
-enum { NOT_KEPT = 20 };                   /* a refusal of dirty and release: the unit is gone */
-enum { GROUP = 1 << 16 };                 /* on the shelf: GROUP times the group's number, and the frame */
+enum { GROUP = 1 << 16 }; /* on the shelf: GROUP times the group's number, and the frame */
 
 typedef struct {
     tempolemon_cpu cpu;
@@ -51,7 +49,7 @@ static int rounds = 50000;
 
 static void need(uint8_t status, const char *what) {
     if (status == TEMPOLEMON_DONE) return;
-    fprintf(stderr, "%s: status %u\n", what, status);
+    fprintf(stderr, "%s: %s (%u)\n", what, tempolemon_status_text(status), status);
     exit(EXIT_FAILURE);
 }
 
@@ -90,7 +88,7 @@ static void release(worker *me, uint32_t group, uint32_t frame) {
     if (result.kind == TEMPOLEMON_CHARGED && result.number == group) {
         LEAVES(page_of(frame));
         const uint8_t status = tempolemon_on_release(&me->cpu, frame, &result);
-        if (status != NOT_KEPT) need(status, "release");
+        if (status != TEMPOLEMON_NOT_KEPT) need(status, "release");
     }
     need(tempolemon_on_put(&me->cpu, frame, &result), "put");
 }
@@ -100,7 +98,7 @@ static void release(worker *me, uint32_t group, uint32_t frame) {
 static void publish(worker *me, _Atomic uint32_t *place, uint32_t frame) {
     tempolemon_result result;
     const uint8_t status = tempolemon_on_dirty(&me->cpu, frame, &result);
-    if (status == NOT_KEPT) return; /* the group was killed */
+    if (status == TEMPOLEMON_NOT_KEPT) return; /* the group was killed */
     need(status, "dirty");
     const uint32_t before = atomic_exchange(place, GROUP * me->group + frame);
     if (before) release(me, before / GROUP, before % GROUP);
@@ -129,7 +127,7 @@ static void *work(void *at) {
         read_from(me, place);
         /* a page of the thread's own group: most of these allocations take no lock */
         const uint8_t status = tempolemon_on_alloc(&me->cpu, me->group, 0, &result);
-        if (status == TEMPOLEMON_OVER_LIMIT || status == NO_FRAMES || status == WAS_KILLED) {
+        if (status == TEMPOLEMON_OVER_LIMIT || status == TEMPOLEMON_NO_FRAMES || status == TEMPOLEMON_KILLED) {
             me->refused++;
             continue;
         }

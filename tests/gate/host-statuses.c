@@ -1,6 +1,8 @@
 /* Calls the library with each refusal, and with buffers that fit exactly or lack a byte: tests/gate/hosts runs it. */
+#define _DEFAULT_SOURCE
 #include <stdio.h>
 #include <string.h>
+#include <sys/mman.h>
 #include <tempolemon.h>
 
 static const tempolemon_sizes SIZES = {.frames = 16, .cpus = 2, .batch = 4, .high = 8, .stock = 4};
@@ -9,17 +11,17 @@ static int failures;
 /* The answers to the script, without the report of the end, in a buffer of `room` bytes that held 'x' in each. */
 static void expect(const char *what, tempolemon_sizes sizes, const char *script, size_t room,
                    uint8_t status, const char *answers, size_t written, size_t first_bad) {
-    uint8_t buffer[64], wanted[64];
+    char buffer[64], wanted[64];
     size_t given_written = 77, given_bad = 77;
     memset(buffer, 'x', sizeof buffer);
     memset(wanted, 'x', sizeof wanted);
     memcpy(wanted, answers, strlen(answers));
-    uint8_t given = tempolemon_replay(&sizes, false, false, (const uint8_t *)script, strlen(script),
-                                      buffer, room, &given_written, &given_bad);
+    uint8_t given = tempolemon_replay(&sizes, false, false, script, strlen(script), buffer, room,
+                                      &given_written, &given_bad);
     if (given != status || given_written != written || given_bad != first_bad
         || memcmp(buffer, wanted, sizeof buffer) != 0) {
         printf("%s: status %u, %zu written, bad line %zu, %.64s\n",
-               what, given, given_written, given_bad, (char *)buffer);
+               what, given, given_written, given_bad, buffer);
         failures++;
     }
 }
@@ -30,7 +32,7 @@ static void is(const char *what, uint8_t given, uint8_t status) {
     failures++;
 }
 
-#define BYTES(text) (const uint8_t *)(text), strlen(text)
+#define BYTES(text) (text), strlen(text)
 
 /* The calls of hosts that were compiled with headers of other versions, before a boot and with one. */
 static void other_versions(void) {
@@ -38,7 +40,7 @@ static void other_versions(void) {
     tempolemon_handle host = {0};
     tempolemon_report report;
     for (size_t at = 0; at < sizeof versions / sizeof *versions; at++) {
-        uint8_t buffer[8] = "before";
+        char buffer[8] = "before";
         size_t written = 77, first_bad = 78;
         is("a boot of another version", tempolemon_boot_as(versions[at], &SIZES, &host), TEMPOLEMON_BAD_VERSION);
         is("its handle", host.raw || host.is_live, false);
@@ -48,6 +50,13 @@ static void other_versions(void) {
            TEMPOLEMON_BAD_VERSION);
         is("what it wrote", written != 77 || first_bad != 78 || memcmp(buffer, "before", 7) != 0, false);
     }
+    /* The version is judged before a pointer is followed: these lead to a page that nobody may read or write. */
+    void *page = mmap(NULL, 4096, PROT_NONE, MAP_PRIVATE | MAP_ANONYMOUS, -1, 0);
+    is("a page without access", page == MAP_FAILED, false);
+    is("a boot that may read nothing", tempolemon_boot_as(0, page, page), TEMPOLEMON_BAD_VERSION);
+    is("a replay that may read nothing", tempolemon_replay_as(0, page, false, false, page, 1, page, 1, page, page),
+       TEMPOLEMON_BAD_VERSION);
+    munmap(page, 4096);
     is("the version of the library", tempolemon_version() != TEMPOLEMON_VERSION, false);
     is("a boot of this version", tempolemon_boot_as(TEMPOLEMON_VERSION, &SIZES, &host), TEMPOLEMON_DONE);
     is("a second boot of version 0", tempolemon_boot_as(0, &SIZES, &host), TEMPOLEMON_BAD_VERSION);
@@ -55,7 +64,7 @@ static void other_versions(void) {
 }
 
 #define MANY 25000
-static uint8_t many[9 * MANY], told[8 * MANY];
+static char many[9 * MANY], told[8 * MANY];
 
 /* A handle before its boot, with it, and after it. */
 static void live(void) {
@@ -63,7 +72,7 @@ static void live(void) {
     tempolemon_handle host = {0};
     tempolemon_result result;
     tempolemon_report report;
-    uint8_t buffer[256] = {0};
+    char buffer[256] = {0};
     size_t written = 77, first_bad;
     low_high.high = 3;
 
@@ -87,7 +96,7 @@ static void live(void) {
     for (size_t room = 0; room < 256; room++)
         is("a short buffer", tempolemon_read(&host, 1, BYTES("/a"), BYTES("memory.max"), buffer, room, &result),
            TEMPOLEMON_SMALL_BUFFER);
-    is("a refusal", tempolemon_put(&host, 1, 0, &result), 21);
+    is("a refusal", tempolemon_put(&host, 1, 0, &result), TEMPOLEMON_NOT_PINNED);
     is("its kind", result.kind, TEMPOLEMON_REFUSED);
     is("a bad line", tempolemon_command(&host, false, BYTES("3 settle\n"), buffer, 256, &written, &first_bad),
        TEMPOLEMON_BAD_LINE);
@@ -104,7 +113,7 @@ static void live(void) {
     is("its kind", result.kind, TEMPOLEMON_FRAME);
     is("a get of it", tempolemon_get(&host, 2, (uint32_t)result.number, &result), TEMPOLEMON_DONE);
     is("its kind", result.kind, TEMPOLEMON_HELD);
-    is("a dirty alloc of order 11", tempolemon_alloc_dirty(&host, 1, 1, 11, &result), 19);
+    is("a dirty alloc of order 11", tempolemon_alloc_dirty(&host, 1, 1, 11, &result), TEMPOLEMON_BAD_ORDER);
     uint32_t pinned[2];
     for (int at = 0; at < 2; at++) {
         is("a pinned alloc", tempolemon_alloc_pinned(&host, 1, 1, 1, &result), TEMPOLEMON_DONE);
@@ -112,13 +121,13 @@ static void live(void) {
         pinned[at] = (uint32_t)result.number;
     }
     is("a pinned alloc at CPU 3", tempolemon_alloc_pinned(&host, 3, 64, 0, &result), TEMPOLEMON_BAD_CPU);
-    is("a pinned alloc of order 0", tempolemon_alloc_pinned(&host, 1, 64, 0, &result), 19);
+    is("a pinned alloc of order 0", tempolemon_alloc_pinned(&host, 1, 64, 0, &result), TEMPOLEMON_BAD_ORDER);
     is("a pinned alloc for group 64", tempolemon_alloc_pinned(&host, 1, 64, 1, &result), TEMPOLEMON_BAD_GROUP);
     for (int pins = 2; pins < 256; pins++) {
         is("a get", tempolemon_get(&host, 1, pinned[pins % 2], &result), TEMPOLEMON_DONE);
         is("its kind", result.kind, TEMPOLEMON_HELD);
     }
-    is("pin 257", tempolemon_alloc_pinned(&host, 1, 1, 0, &result), 9);
+    is("pin 257", tempolemon_alloc_pinned(&host, 1, 1, 0, &result), TEMPOLEMON_PINS_FULL);
     is("its kind", result.kind, TEMPOLEMON_REFUSED);
     for (int pins = 0; pins < 256; pins++) {
         is("a put", tempolemon_put(&host, 1, pinned[pins % 2], &result), TEMPOLEMON_DONE);
@@ -137,10 +146,12 @@ static void live(void) {
 }
 
 int main(void) {
-    tempolemon_sizes low_high = SIZES, no_frames = SIZES, great_batch = SIZES, no_kill = SIZES;
+    tempolemon_sizes low_high = SIZES, no_frames = SIZES, great_batch = SIZES, no_kill = SIZES, two = SIZES, fair_two = SIZES;
     low_high.high = 3;
     great_batch.reclaim_batch = 65;
     no_kill.no_kill = 1;
+    two.no_kill = 2;
+    fair_two.fair = 2;
     no_frames.frames = 0;
     expect("an exact buffer", SIZES, "1 mkdir /a\n", 8, TEMPOLEMON_DONE, "group 1\n", 8, 0);
     expect("a longer buffer", SIZES, "1 mkdir /a\n", 64, TEMPOLEMON_DONE, "group 1\n", 8, 0);
@@ -151,6 +162,8 @@ int main(void) {
     expect("a low high", low_high, "1 mkdir /a\n", 64, TEMPOLEMON_BAD_CONFIG, "", 0, 0);
     expect("no frames", no_frames, "bad\n", 64, TEMPOLEMON_BAD_CONFIG, "", 0, 0);
     expect("a great batch of reclaim", great_batch, "1 mkdir /a\n", 64, TEMPOLEMON_BAD_CONFIG, "", 0, 0);
+    expect("no_kill of 2", two, "1 mkdir /a\n", 64, TEMPOLEMON_BAD_CONFIG, "", 0, 0);
+    expect("fair of 2", fair_two, "1 mkdir /a\n", 64, TEMPOLEMON_BAD_CONFIG, "", 0, 0);
     great_batch.reclaim_batch = 64;
     expect("the greatest batch of reclaim", great_batch, "1 mkdir /a\n", 64, TEMPOLEMON_DONE, "group 1\n", 8, 0);
     expect("nobody is killed", no_kill, "1 mkdir /a\n1 write /a memory.max 4K\n1 alloc /a 0\n1 dirty 0\n1 alloc /a 0\n", 64,

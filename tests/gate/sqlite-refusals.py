@@ -1,5 +1,6 @@
 """What the page cache for SQLite refuses, each with its words; tests/gate/sqlite gives the path of its shared object."""
 import ctypes
+import resource
 import sys
 
 CACHE = ctypes.CDLL(sys.argv[1], mode=ctypes.RTLD_GLOBAL)
@@ -27,7 +28,7 @@ want(call("install", 2048 * MIB + 4096), BUDGET)
 want(call("install", 8 * MIB), None)
 import sqlite3  # noqa: E402 - it initializes SQLite
 
-want(call("install", 8 * MIB), "SQLite is initialized already")
+want(call("install", 16 * MIB), "SQLite is initialized already")
 for name in (b"", b"a/b", b"x" * 32):
     want(call("tenant", name), NAME)
     want(call("limit", name, MIB), NAME)
@@ -38,6 +39,7 @@ want(call("read", b"b", b"memory.max", text), "no group or file of this name")
 want(call("read", b"a", b"memory.pressure", text), "no group or file of this name")
 want(call("read", b"a", b"memory.max", text), None)
 want(text.value, b"262144\n")
+want(call("read", b"a", b"cache.stat", text), "no group or file of this name")
 
 # a database in memory can't be reclaimed: at its tenant's limit it gets SQLITE_NOMEM, and the limit can't be lowered below it
 want(call("tenant", b"a"), None)
@@ -54,13 +56,48 @@ want(call("limit", b"a", MIB // 2), "its databases have pinned more than that")
 database.close()
 want(call("limit", b"a", MIB // 2), None)
 
-# 62 tenants and caches: the next gets SQLITE_NOMEM
-want(call("limit", b"a", 8 * MIB), None)
-opened = [sqlite3.connect(":memory:") for _ in range(61)]
-try:
-    opened.append(sqlite3.connect(":memory:"))
-    opened[-1].execute("create table t(x)")
-    sys.exit("a cache more than there are groups was made")
-except MemoryError:
-    pass
+# a cache's number and counts; what was discarded or has ended isn't counted
+database = sqlite3.connect(":memory:")
+database.execute("create table t(x)")
+want(call("read", b"a/c1", b"cache.stat", text), None)
+counts = dict(line.split() for line in text.value.decode().splitlines())
+want((counts["caches"], counts["pages"], counts["pinned"]), ("1", "2", "2"))
+database.close()
+want(call("read", b"a/c1", b"cache.stat", text), "no group or file of this name")
+
+# caches aren't groups: there may be any number of them, but 62 tenants, of which "main" is one
+want(call("limit", b"a", 2047 * MIB), None)
+opened = [sqlite3.connect(":memory:") for _ in range(1000)]
+for each in opened[:500]:
+    each.execute("create table t(x)")
+for number in range(60):
+    want(call("tenant", b"t%d" % number), None)
 want(call("tenant", b"c"), "no group of this name can be made")
+
+# plain SQLite lets a host shut down with a connection open, and the connection goes on
+sqlite = ctypes.CDLL("libsqlite3.so.0")
+want(sqlite.sqlite3_shutdown(), 0)
+want(call("install", 64 * MIB), "a connection is open")
+opened[-1].execute("create table t(x)")
+opened[-1].execute("insert into t values(7)")
+want(opened[-1].execute("select x from t").fetchall(), [(7,)])
+want(sqlite.sqlite3_initialize(), 0)
+for each in opened:
+    each.close()
+want(sqlite.sqlite3_shutdown(), 0)
+
+# the refused installations changed nothing
+want(sqlite.sqlite3_initialize(), 0)
+want(call("read", b"", b"memory.max", text), None)
+want(text.value, b"8388608\n")
+want(sqlite.sqlite3_shutdown(), 0)
+
+# without memory SQLite can't be initialized; with it, it can
+want(call("install", 1024 * MIB), None)
+limits = resource.getrlimit(resource.RLIMIT_AS)
+resource.setrlimit(resource.RLIMIT_AS, (1024 * MIB, limits[1]))
+want(sqlite.sqlite3_initialize(), 7)
+resource.setrlimit(resource.RLIMIT_AS, limits)
+want(sqlite.sqlite3_initialize(), 0)
+want(call("read", b"", b"memory.max", text), None)
+want(text.value, b"1073741824\n")

@@ -2,11 +2,12 @@
  *
  *     sqlite-storm plain|tempolemon FOLDER SEED [ROUNDS]
  *
- * 6 threads of 3 tenants each make ROUNDS (100) random turns on databases of their own, with pages of 512 to 65,536 bytes,
- * two connections, WAL or a journal, savepoints, spill, VACUUM, backups and temporary tables, and then on a database that all
+ * 60 connections at once hold statements with ephemeral tables open. Then 6 threads of 3 tenants each make ROUNDS (100) random
+ * turns on databases of their own, with pages of 512 to 65,536 bytes, two connections, WAL or a journal, savepoints, spill,
+ * VACUUM, backups, ten attached databases, indexes that are dropped and temporary tables, and then on a database that all
  * share. A thread's line has a hash of all rows and statuses that it got. An odd seed has databases in memory and no spill,
- * and room for that; an even one has neither, and tight limits. SQLITE_NOMEM ends the run with 1, and so does a database that
- * isn't intact.
+ * 10,000 open statements, and room for that; an even one has neither, and tight limits. SQLITE_NOMEM ends the run with 1, and
+ * so does a database that isn't intact.
  */
 #define _GNU_SOURCE
 #include <pthread.h>
@@ -20,7 +21,7 @@
 
 #include "tempolemon_pcache.h"
 
-enum { THREADS = 6, TENANTS = 3, MIB = 1 << 20 };
+enum { THREADS = 6, TENANTS = 3, MIB = 1 << 20, CONNECTIONS = 60, MOST_STATEMENTS = 10000, ATTACHED = 10, INDEXES = 99 };
 #define SERIES "with recursive c(x) as (select %u union all select x + 1 from c where x < %u) "
 #define TABLES                                                                                                         \
     "create table t(id integer primary key, k int, v text); create index tk on t(k); create index tv on t(v); "        \
@@ -36,6 +37,8 @@ typedef struct {
 } worker;
 
 static const char *folder;
+static pthread_mutex_t mutex = PTHREAD_MUTEX_INITIALIZER;
+static sqlite3_stmt *common; /* which all threads step, under the mutex: one unpins what another pinned */
 static unsigned seed;
 static int rounds = 100;
 static bool is_tempolemon, is_roomy;
@@ -150,8 +153,36 @@ static void reopen(worker *me) {
     me->two = open_at(me, me->path, 10 + draw(me, 50));
 }
 
+/* Each dropped index has an ephemeral table. */
+static void drop_indexes(worker *me) {
+    run(me, me->one, "begin; create table w(a int, b text); insert into w select id, v from t limit 20");
+    for (uint32_t at = 0; at < INDEXES; at++) run(me, me->one, "create index w%u on w(a + %u, b)", at, at);
+    run(me, me->one, "commit; drop table w; select count(*) from sqlite_master");
+}
+
+static void attach(worker *me) {
+    for (uint32_t at = 0; at < ATTACHED; at++) {
+        run(me, me->two, "attach '%s.%u' as a%u; create table if not exists a%u.x(id integer primary key, k int)", me->path, at,
+            at, at);
+        run(me, me->two, "insert into a%u.x(k) select distinct k from t where id %% %u = 3", at, at + 7);
+    }
+    run(me, me->two, "select count(*), sum(k) from (select * from a0.x union select * from a3.x union all select * from a9.x)");
+    run(me, me->two, "begin; delete from a1.x where id > 100; update a2.x set k = k + 1; delete from a4.x; commit");
+    for (uint32_t at = 0; at < ATTACHED; at++) run(me, me->two, "detach a%u", at);
+}
+
+static void vacuum_into(worker *me) {
+    char path[300];
+    snprintf(path, sizeof path, "%s.into", me->path);
+    run(me, me->one, "vacuum into '%s'", path);
+    sqlite3 *db = open_at(me, path, 10);
+    run(me, db, "select count(*), sum(k), sum(length(v)) from t; pragma integrity_check");
+    sqlite3_close(db);
+    remove(path);
+}
+
 static void take_turn(worker *me) {
-    switch (draw(me, 24)) {
+    switch (draw(me, 30)) {
     case 0: run(me, me->one, "vacuum"); break;
     case 1: run(me, me->one, "pragma cache_size = %u", 5 + draw(me, 300)); break;
     case 2: run(me, me->two, "pragma cache_spill = %u", is_roomy ? draw(me, 2) : 1 + draw(me, 30)); break;
@@ -170,8 +201,44 @@ static void take_turn(worker *me) {
     case 12: run(me, me->memory, "delete from t where id > 3000; delete from big where id > 3; vacuum"); break;
     case 13: run(me, me->one, "drop index if exists tv; create index tv on t(v)"); break;
     case 14: run(me, me->two, "pragma integrity_check"); break;
+    case 15: drop_indexes(me); break;
+    case 16: attach(me); break;
+    case 17: vacuum_into(me); break;
+    case 18:
+        run(me, draw(me, 2) ? me->one : me->memory, "with m as materialized (select id, k from t where k %% 3) "
+                                                    "select count(*), sum(a.k) from m a join m b on a.id = b.id + 1");
+        break;
     default: make_transaction(me, draw(me, 3) ? me->one : me->two);
     }
+}
+
+/* Has many statements with ephemeral tables open at once, on many connections. */
+static void hold_open(worker *me) {
+    static const char *const texts[] = {
+        "select distinct x + id %% 3 from n where id in (1, 5, 9, %u) union select id from n where id in (7, 8) order by 1",
+        "with m as materialized (select id from n where id < 9 + %u) select a.id from m a join m b on a.id = b.id + 1",
+        "select id from n where id in (3, 2, 1, %u)",
+        "select distinct pad from n where id < 20 + %u %% 9 group by id %% 7",
+    };
+    static sqlite3_stmt *statements[MOST_STATEMENTS];
+    sqlite3 *dbs[CONNECTIONS];
+    const uint32_t count = is_roomy ? MOST_STATEMENTS : 4 * CONNECTIONS;
+    for (int at = 0; at < CONNECTIONS; at++) dbs[at] = open_at(me, me->path, 20);
+    for (int round = 0; round < 3; round++) /* 0 begins them, 1 has the next row of each, 2 ends them */
+        for (uint32_t at = 0; at < count; at++) {
+            sqlite3 *db = dbs[at % CONNECTIONS];
+            char *const text = sqlite3_mprintf(texts[at < 4 * CONNECTIONS ? at / CONNECTIONS : 2], at % 1000);
+            int status = round ? SQLITE_OK : sqlite3_prepare_v2(db, text, -1, &statements[at], NULL);
+            for (int left = 1; left > 0 && status != SQLITE_DONE; left -= round < 2) {
+                if (status == SQLITE_OK || status == SQLITE_ROW) status = sqlite3_step(statements[at]);
+                if (status == SQLITE_ROW) mix_row(me, statements[at]);
+                else if (status != SQLITE_DONE) fail(me, db, text);
+            }
+            mix(me, &status, sizeof status);
+            sqlite3_free(text);
+            if (round == 2) sqlite3_finalize(statements[at]);
+        }
+    for (int at = 0; at < CONNECTIONS; at++) sqlite3_close(dbs[at]);
 }
 
 /* Turns on a database of which the sum of all rows doesn't depend on the order of the threads. */
@@ -185,6 +252,10 @@ static void share(worker *me) {
         run(me, db, "begin immediate; update n set x = x + 1 where id between %u and 1000; "
                     "update n set x = x - 1 where id = %u; commit", from, draw(me, 2000));
         run(me, db, "select sum(x) from n where id <= %u", draw(me, 3000));
+        pthread_mutex_lock(&mutex);
+        for (int step = 0; step < 50; step++)
+            if (sqlite3_step(common) != SQLITE_ROW && sqlite3_reset(common) != SQLITE_OK) fail(me, db, "common");
+        pthread_mutex_unlock(&mutex);
     }
     me->hash = hash;
     me->rows = 0;
@@ -255,6 +326,15 @@ int main(int count, char **words) {
     run(&boss, boss.one, "pragma page_size = 2048; pragma journal_mode = wal; "
                          "create table n(id integer primary key, x int, pad text); "
                          SERIES "insert into n select x, 0, printf('%%0100d', x) from c", 0, 3000);
+    hold_open(&boss);
+    snprintf(boss.path, sizeof boss.path, "%s/common.db", folder);
+    sqlite3 *const db = open_at(&boss, boss.path, 200);
+    run(&boss, db, "create table n(id integer primary key, pad text); "
+                   SERIES "insert into n select x, printf('%%0300d', x) from c", 0, 1000);
+    if (!is_roomy) /* VACUUM keeps up to a cache_size of changed pages, and these are more than the budget */
+        run(&boss, db, "pragma cache_size = 100000; create table large(x); "
+                       SERIES "insert into large select printf('%%0300d', x) from c; vacuum; pragma cache_size = 20", 1, 40000);
+    if (sqlite3_prepare_v2(db, "select id, pad from n", -1, &common, NULL) != SQLITE_OK) fail(&boss, db, "common");
     for (int at = 0; at < THREADS; at++) {
         workers[at] = (worker){.number = at, .hash = 14695981039346656037u};
         if (pthread_create(&workers[at].thread, NULL, work, &workers[at])) return EXIT_FAILURE;
@@ -266,6 +346,8 @@ int main(int count, char **words) {
     run(&boss, boss.one, "pragma integrity_check; select * from n");
     printf("shared %016llx\n", (unsigned long long)boss.hash);
     if (is_tempolemon) tell();
+    sqlite3_finalize(common);
+    sqlite3_close(db);
     sqlite3_close(boss.one);
     return sqlite3_shutdown() == SQLITE_OK ? EXIT_SUCCESS : EXIT_FAILURE;
 }

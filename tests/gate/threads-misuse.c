@@ -4,6 +4,7 @@
 #include <stdatomic.h>
 #include <stdio.h>
 #include <string.h>
+#include <sys/mman.h>
 #include "tempolemon_threads.h"
 
 static const tempolemon_sizes SIZES = {.frames = 64, .cpus = 3, .batch = 4, .high = 16, .stock = 8};
@@ -64,7 +65,14 @@ static void refusals(void) {
     is("a boot of the next version", tempolemon_zone_boot_as(next, &SIZES, &zone), TEMPOLEMON_BAD_VERSION);
     is("one of version 0", tempolemon_zone_boot_as(0, &low_high, &zone), TEMPOLEMON_BAD_VERSION);
     is("its handle", zone.raw || zone.is_live, false);
+    void *page = mmap(NULL, 4096, PROT_NONE, MAP_PRIVATE | MAP_ANONYMOUS, -1, 0);
+    is("a page without access", page == MAP_FAILED, false);
+    is("a boot that may read nothing", tempolemon_zone_boot_as(0, page, page), TEMPOLEMON_BAD_VERSION);
+    munmap(page, 4096);
     is("a low high", tempolemon_zone_boot(&low_high, &zone), TEMPOLEMON_BAD_CONFIG);
+    tempolemon_sizes flagged = SIZES;
+    flagged.no_kill = 2;
+    is("a flag of two", tempolemon_zone_boot(&flagged, &zone), TEMPOLEMON_BAD_CONFIG);
     is("a boot", tempolemon_zone_boot(&SIZES, &zone), TEMPOLEMON_DONE);
     is("a second boot", tempolemon_zone_boot(&SIZES, &zone), TEMPOLEMON_IS_LIVE);
     is("one of the next version", tempolemon_zone_boot_as(next, &SIZES, &zone), TEMPOLEMON_BAD_VERSION);
@@ -78,6 +86,13 @@ static void refusals(void) {
     all_are("a call of the second handle", &two, TEMPOLEMON_NOT_LIVE);
     is("an end with a CPU out", tempolemon_zone_end(&zone, &report), TEMPOLEMON_CPUS_OUT);
     is("its report", report.held, 77);
+    uint64_t out = 7;
+    is("the CPUs out of none", tempolemon_cpus_out(&none, &out), TEMPOLEMON_NOT_LIVE);
+    is("are none", out, 0);
+    is("CPU 3", tempolemon_take(&zone, 3, &two), TEMPOLEMON_DONE);
+    is("the CPUs that are out", tempolemon_cpus_out(&zone, &out), TEMPOLEMON_DONE);
+    is("are 1 and 3", out, 5);
+    is("the return of CPU 3", tempolemon_return(&two), TEMPOLEMON_DONE);
 
     is("frame 64", tempolemon_on_get(&one, 64, &result), TEMPOLEMON_BAD_FRAME);
     is("frame 2^32 - 1", tempolemon_on_release(&one, UINT32_MAX, &result), TEMPOLEMON_BAD_FRAME);
@@ -91,17 +106,18 @@ static void refusals(void) {
     is("the usage of group 1", tempolemon_on_usage(&one, 1, &result), TEMPOLEMON_BAD_GROUP);
     is("the limit of group 64", tempolemon_on_max(&one, 64, &result), TEMPOLEMON_BAD_GROUP);
     is("a limit of group 63", tempolemon_on_set_max(&one, 63, 1, &result), TEMPOLEMON_BAD_GROUP);
-    is("a limit of the root", tempolemon_on_set_max(&one, 0, 1, &result), 10);
-    is("a put without a pin", tempolemon_on_put(&one, 0, &result), 21);
+    is("a limit of the root", tempolemon_on_set_max(&one, 0, 1, &result), TEMPOLEMON_NO_FILE);
+    is("a put without a pin", tempolemon_on_put(&one, 0, &result), TEMPOLEMON_NOT_PINNED);
     is("its kind", result.kind, TEMPOLEMON_REFUSED);
     is("a short buffer", tempolemon_on_read(&one, "/a", 2, "memory.max", 10, text, 159, &result), TEMPOLEMON_SMALL_BUFFER);
-    is("units of no group", tempolemon_on_units(&one, "/a", 2, text, sizeof text, &written), 6);
+    is("units of no group", tempolemon_on_units(&one, "/a", 2, text, sizeof text, &written), TEMPOLEMON_NO_GROUP);
     look(&one, after);
     is("what these calls changed", (unsigned long)strcmp(before, after), 0);
 
     is("mkdir", tempolemon_on_mkdir(&one, "/a", 2, &result), TEMPOLEMON_DONE);
     const uint32_t group = (uint32_t)result.number;
-    is("a read of memory.reclaim", tempolemon_on_read(&one, "/a", 2, "memory.reclaim", 14, text, 256, &result), 22);
+    is("a read of memory.reclaim", tempolemon_on_read(&one, "/a", 2, "memory.reclaim", 14, text, 256, &result),
+       TEMPOLEMON_WRITE_ONLY);
     is("its kind", result.kind, TEMPOLEMON_REFUSED);
     is("a short text", tempolemon_on_show(&one, text, 3, &written), TEMPOLEMON_SMALL_BUFFER);
     const size_t needed = written;
@@ -123,7 +139,7 @@ static void refusals(void) {
     is("its pages", result.number, 8);
     is("the usage of the root", tempolemon_on_usage(&one, 0, &result), TEMPOLEMON_DONE);
     is("its pages", result.number, 8);
-    is("a reclaim of dirty pages", tempolemon_on_reclaim(&one, group, 1, &result), 17);
+    is("a reclaim of dirty pages", tempolemon_on_reclaim(&one, group, 1, &result), TEMPOLEMON_AGAIN);
     is("its clean", tempolemon_on_clean(&one, eight, &result), TEMPOLEMON_DONE);
     is("a reclaim", tempolemon_on_reclaim(&one, group, 1, &result), TEMPOLEMON_DONE);
     is("the usage", tempolemon_on_usage(&one, group, &result), TEMPOLEMON_DONE);
@@ -143,7 +159,7 @@ static void refusals(void) {
         is("which is dirty", written != length || memcmp(text, unit, length) != 0, 0);
         is("its release", tempolemon_on_release(&one, head, &result), TEMPOLEMON_DONE);
     }
-    is("order 11, dirty", tempolemon_on_alloc_dirty(&one, group, 11, &result), 19);
+    is("order 11, dirty", tempolemon_on_alloc_dirty(&one, group, 11, &result), TEMPOLEMON_BAD_ORDER);
 
     /* a block that is pinned at once isn't reclaimed; with 256 pins there are no more */
     uint32_t pinned[2];
@@ -152,17 +168,17 @@ static void refusals(void) {
         is("its kind", result.kind, TEMPOLEMON_FRAME);
         pinned[at] = (uint32_t)result.number;
     }
-    is("a reclaim", tempolemon_on_reclaim(&one, group, 64, &result), 17);
-    is("order 0, pinned", tempolemon_on_alloc_pinned(&one, group, 0, &result), 19);
-    is("order 11, pinned", tempolemon_on_alloc_pinned(&one, group, 11, &result), 19);
+    is("a reclaim", tempolemon_on_reclaim(&one, group, 64, &result), TEMPOLEMON_AGAIN);
+    is("order 0, pinned", tempolemon_on_alloc_pinned(&one, group, 0, &result), TEMPOLEMON_BAD_ORDER);
+    is("order 11, pinned", tempolemon_on_alloc_pinned(&one, group, 11, &result), TEMPOLEMON_BAD_ORDER);
     for (int pins = 2; pins < 256; pins++) {
         is("get", tempolemon_on_get(&one, pinned[pins % 2], &result), TEMPOLEMON_DONE);
         is("held", result.kind, TEMPOLEMON_HELD);
     }
     look(&one, before);
-    is("pin 257", tempolemon_on_alloc_pinned(&one, group, 1, &result), 9);
+    is("pin 257", tempolemon_on_alloc_pinned(&one, group, 1, &result), TEMPOLEMON_PINS_FULL);
     is("its kind", result.kind, TEMPOLEMON_REFUSED);
-    is("pin 257, order 0", tempolemon_on_alloc_pinned(&one, group, 0, &result), 9);
+    is("pin 257, order 0", tempolemon_on_alloc_pinned(&one, group, 0, &result), TEMPOLEMON_PINS_FULL);
     look(&one, after);
     is("what these calls changed", (unsigned long)strcmp(before, after), 0);
     for (int pins = 0; pins < 256; pins++) {
@@ -188,8 +204,17 @@ static void refusals(void) {
 #ifndef NDEBUG
     copy = two;
     all_are("a call of a copy", &copy, TEMPOLEMON_COPIED);
+    result = (tempolemon_result){7, TEMPOLEMON_FRAME};
+    is("an alloc of a copy", tempolemon_on_alloc(&copy, group, 0, &result), TEMPOLEMON_COPIED);
+    is("gives nothing", result.number + result.kind, TEMPOLEMON_NOTHING);
     two.in_use = 1;
     all_are("a call during a call", &two, TEMPOLEMON_IN_USE);
+    result = (tempolemon_result){7, TEMPOLEMON_FRAME};
+    written = 7;
+    is("a read during a call", tempolemon_on_read(&two, "/a", 2, "memory.max", 10, text, 256, &result), TEMPOLEMON_IN_USE);
+    is("gives nothing", result.number + result.kind, TEMPOLEMON_NOTHING);
+    is("a show during a call", tempolemon_on_show(&two, text, sizeof text, &written), TEMPOLEMON_IN_USE);
+    is("writes nothing", written, 0);
     two.in_use = 0;
 #else
     (void)copy;
@@ -215,11 +240,11 @@ static void free_lock(void) {
     is("take", tempolemon_take(&zone, 2, &two), TEMPOLEMON_DONE);
 #define FREE_AFTER(call)                                                                                              \
     do {                                                                                                               \
-        (void)(call);                                                                                                  \
+        is(#call, (call) == TEMPOLEMON_BUSY, false);                                                                   \
         is(#call, tempolemon_try_settle(&two.part, &result), TEMPOLEMON_DONE);                                         \
     } while (0)
     for (int round = 0; round < 3; round++) {
-        FREE_AFTER(tempolemon_try_mkdir(&one.part, (const uint8_t *)"/a", 2, &result));
+        FREE_AFTER(tempolemon_try_mkdir(&one.part, "/a", 2, &result));
         FREE_AFTER(tempolemon_try_alloc(&one.part, 1, 0, &result));
         const uint32_t frame = (uint32_t)result.number;
         FREE_AFTER(tempolemon_try_alloc(&one.part, 1, 2, &result));
@@ -233,12 +258,12 @@ static void free_lock(void) {
         FREE_AFTER(tempolemon_try_usage(&one.part, 40, &result));
         FREE_AFTER(tempolemon_try_set_max(&one.part, 1, 16, &result));
         FREE_AFTER(tempolemon_try_set_max(&one.part, 40, 16, &result));
-        FREE_AFTER(tempolemon_try_write(&one.part, (const uint8_t *)"/a", 2, (const uint8_t *)"memory.max", 10,
-                                        (const uint8_t *)"64K", 3, &result));
-        FREE_AFTER(tempolemon_try_read(&one.part, (const uint8_t *)"/a", 2, (const uint8_t *)"memory.max", 10,
-                                       (uint8_t *)text, 256, &result));
-        FREE_AFTER(tempolemon_try_read(&one.part, (const uint8_t *)"/b", 2, (const uint8_t *)"memory.max", 10,
-                                       (uint8_t *)text, 256, &result));
+        FREE_AFTER(tempolemon_try_write(&one.part, "/a", 2, "memory.max", 10,
+                                        "64K", 3, &result));
+        FREE_AFTER(tempolemon_try_read(&one.part, "/a", 2, "memory.max", 10,
+                                       text, 256, &result));
+        FREE_AFTER(tempolemon_try_read(&one.part, "/b", 2, "memory.max", 10,
+                                       text, 256, &result));
         FREE_AFTER(tempolemon_try_touch(&one.part, frame, &result));
         FREE_AFTER(tempolemon_try_dirty(&one.part, frame, &result));
         FREE_AFTER(tempolemon_try_clean(&one.part, frame, &result));
@@ -247,12 +272,12 @@ static void free_lock(void) {
         FREE_AFTER(tempolemon_cpu_put(&one.part, frame, &result));
         FREE_AFTER(tempolemon_try_release(&one.part, frame, &result));
         FREE_AFTER(tempolemon_try_settle(&one.part, &result));
-        FREE_AFTER(tempolemon_try_show(&one.part, (uint8_t *)text, sizeof text, &written));
-        FREE_AFTER(tempolemon_try_blocks(&one.part, (uint8_t *)text, sizeof text, &written));
-        FREE_AFTER(tempolemon_try_stock(&one.part, (uint8_t *)text, sizeof text, &written));
-        FREE_AFTER(tempolemon_try_units(&one.part, (const uint8_t *)"/a", 2, (uint8_t *)text, sizeof text, &written));
-        FREE_AFTER(tempolemon_try_units(&one.part, (const uint8_t *)"/b", 2, (uint8_t *)text, sizeof text, &written));
-        FREE_AFTER(tempolemon_try_rmdir(&one.part, (const uint8_t *)"/b", 2, &result));
+        FREE_AFTER(tempolemon_try_show(&one.part, text, sizeof text, &written));
+        FREE_AFTER(tempolemon_try_blocks(&one.part, text, sizeof text, &written));
+        FREE_AFTER(tempolemon_try_stock(&one.part, text, sizeof text, &written));
+        FREE_AFTER(tempolemon_try_units(&one.part, "/a", 2, text, sizeof text, &written));
+        FREE_AFTER(tempolemon_try_units(&one.part, "/b", 2, text, sizeof text, &written));
+        FREE_AFTER(tempolemon_try_rmdir(&one.part, "/b", 2, &result));
         FREE_AFTER(tempolemon_zone_end(&zone, &report));
         FREE_AFTER(tempolemon_try_return(&one.part));
         FREE_AFTER(tempolemon_try_take(&zone, 9, &one.part));
@@ -274,7 +299,8 @@ static void *hold(void *at) {
     static char text[1000];
     tempolemon_cpu *cpu = at;
     size_t written;
-    while (!atomic_load(&is_over)) (void)tempolemon_on_show(cpu, text, sizeof text, &written);
+    while (!atomic_load(&is_over))
+        is("a long text", tempolemon_on_show(cpu, text, sizeof text, &written), TEMPOLEMON_DONE);
     is("return of the holder", tempolemon_return(cpu), TEMPOLEMON_DONE);
     return NULL;
 }

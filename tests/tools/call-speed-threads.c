@@ -177,7 +177,7 @@ int main(int count, char **words) {
         need(tempolemon_take(&zone, at + 1, &me->cpu), "take");
         need(tempolemon_on_mkdir(&control, path, 2, &result), "mkdir");
         me->group = (uint32_t)result.number;
-        need(tempolemon_mkdir(&old, 1, (const uint8_t *)path, 2, &result), "mkdir");
+        need(tempolemon_mkdir(&old, 1, path, 2, &result), "mkdir");
         /* a frame of its own, for get and put; it has the same number behind the old handle */
         need(tempolemon_on_alloc(&me->cpu, me->group, 1, &result), "alloc");
         me->frame = (uint32_t)result.number;

@@ -12,7 +12,7 @@
 #include <time.h>
 
 #define ROUNDS 1000000
-#define BYTES(text) (const uint8_t *)(text), strlen(text)
+#define BYTES(text) (text), strlen(text)
 
 static tempolemon_handle host;
 static tempolemon_result result;
@@ -46,12 +46,12 @@ static void write_limit(void) {
 }
 
 static void read_usage(void) {
-    uint8_t text[256];
+    char text[256];
     ask(tempolemon_read(&host, 1, BYTES("/a"), BYTES("memory.current"), text, sizeof text, &result), "read");
 }
 
 static void command(void) {
-    uint8_t answers[64];
+    char answers[64];
     size_t written, first_bad;
     ask(tempolemon_command(&host, false, BYTES("1 settle\n"), answers, sizeof answers, &written, &first_bad),
         "command");

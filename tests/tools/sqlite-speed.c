@@ -1,24 +1,32 @@
 /* What databases get of a page cache; the script sqlite-speed beside this builds and runs it:
  *
  *     sqlite-speed CACHE FOLDER time THREADS PAGES
- *     sqlite-speed CACHE FOLDER hits BUDGET SCANNER LIMIT
+ *     sqlite-speed CACHE FOLDER in THREADS CONNECTIONS
+ *     sqlite-speed CACHE FOLDER point|union|change PAGES CONNECTIONS
+ *     sqlite-speed CACHE FOLDER WORKLOAD PAGES [LIMIT]
  *
- * CACHE is `own` (SQLite's, a cache_size for each database), `unified` (SQLite's, one LRU list for all pages) or `tempolemon`.
+ * CACHE is `own` (SQLite's, an equal part of the pages for each database), `unified` (SQLite's one LRU list, which it has if
+ * it is configured for a single thread), `tempolemon`, or `tenants`: that with a tenant for each database.
  *
  * time: THREADS threads, each with a database of 60,000 rows (4,800 pages), make 20,000 operations: 45 % reads by number,
  * 30 % by an index, 10 % of 200 rows, 15 % transactions of 10 changes. Each database may have PAGES. It prints the CPU time of
  * an operation in microseconds, the percentage of hits, and how many pages an operation fetched.
  *
- * hits: eight databases of 50,000 rows (4,000 pages) below a budget of BUDGET pages, by one thread. 80 % of 400,000 reads by
- * an index are of one database, the others of the seven others, by a Zipf law of exponent 0.8. With SCANNER 1 there are
- * 100,000, and after each eighth one 400 rows of another database are scanned, round and round. LIMIT is the limit of its
- * tenant in pages, or 0. After the first quarter hits are counted, but not those of the database that is scanned. It prints
- * the percentages of hits of all, and of the hot database.
+ * in: THREADS threads make 100,000 statements `select .. in (..)`, in turn on the CONNECTIONS, each of a database. It prints
+ * the CPU time of one in microseconds.
+ *
+ * point, union, change: below a budget of PAGES each of the CONNECTIONS, to a database of 1,000 rows, has a read by an index
+ * open, or a DISTINCT and UNION with three ephemeral tables, or a transaction of 10 changes. It ends with 1 if one fails.
+ *
+ * WORKLOAD: one thread makes the steps of a workload of the table `workloads` below, on databases that share PAGES. After the
+ * first quarter it counts hits, but not those of a database that is scanned. It prints their percentage. LIMIT is the limit of
+ * the last database's tenant in pages.
  */
 #define _GNU_SOURCE
 #include <math.h>
 #include <pthread.h>
 #include <sqlite3.h>
+#include <stdbool.h>
 #include <stdint.h>
 #include <stdio.h>
 #include <stdlib.h>
@@ -27,21 +35,35 @@
 
 #include "tempolemon_pcache.h"
 
-enum { DATABASES = 8, PAGE = 4096, MOST_THREADS = 16, OPERATIONS = 20000, READS = 400000 };
+enum { PAGE = 4096, MOST_DATABASES = 256, MOST_THREADS = 16, OPERATIONS = 20000, STATEMENTS = 100000, SKEWS = 8 };
 
 typedef struct {
     pthread_t thread;
-    sqlite3 *db;
-    int number, rows;
+    int number, threads;
     double seconds;
 } worker;
 
+typedef struct {
+    sqlite3 *db;
+    sqlite3_stmt *read, *scan, *change, *add;
+    int64_t rows;
+} database;
+
 static const char *folder;
+static bool is_tempolemon, has_tenants, is_unified;
+static database databases[MOST_DATABASES];
+static int count;        /* of the databases */
+static double *skews[SKEWS]; /* sums of the chances of each row, by Zipf laws of the exponents 0.5 to 1.2 */
+static uint64_t seed = 88172645463325252u;
 
 static void need(int status, sqlite3 *db, const char *what) {
     if (status == SQLITE_OK || status == SQLITE_ROW || status == SQLITE_DONE) return;
     fprintf(stderr, "%s: %s\n", what, db ? sqlite3_errmsg(db) : sqlite3_errstr(status));
     exit(EXIT_FAILURE);
+}
+
+static void need_cache(const char *why) {
+    if (why) exit((fprintf(stderr, "%s\n", why), EXIT_FAILURE));
 }
 
 static void run(sqlite3 *db, const char *form, long number) {
@@ -50,23 +72,42 @@ static void run(sqlite3 *db, const char *form, long number) {
     sqlite3_free(text);
 }
 
-static sqlite3 *make(int number, int rows, long pages) {
-    char path[256];
-    sqlite3 *db;
-    snprintf(path, sizeof path, "%s/%d.db", folder, number);
-    need(sqlite3_open(path, &db), NULL, path);
-    run(db, "pragma page_size = 4096; pragma journal_mode = wal; pragma synchronous = off; pragma cache_size = %ld", pages);
-    run(db, "create table t(id integer primary key, k int, v text); create index tk on t(k); "
-            "with recursive c(x) as (select 0 union all select x + 1 from c where x < %ld) "
-            "insert into t select x, x * 7919 %% 1000003, printf('%%0200d', x) from c; pragma wal_checkpoint(truncate)",
-        rows - 1);
-    return db;
-}
-
 static sqlite3_stmt *prepare(sqlite3 *db, const char *text) {
     sqlite3_stmt *statement;
     need(sqlite3_prepare_v2(db, text, -1, &statement, NULL), db, text);
     return statement;
+}
+
+/* Makes databases of so many rows, each with so many pages of cache. */
+static void make(int wanted, int rows, long pages) {
+    for (count = 0; count < wanted; count++) {
+        database *it = &databases[count];
+        char path[256];
+        snprintf(path, sizeof path, "t%d", count);
+        if (has_tenants) need_cache(tempolemon_pcache_tenant(path));
+        snprintf(path, sizeof path, "%s/%d.db", folder, count);
+        need(sqlite3_open(path, &it->db), NULL, path);
+        run(it->db, "pragma journal_mode = wal; pragma synchronous = off; pragma cache_size = %ld", pages);
+        run(it->db, "create table t(id integer primary key, k int, v text); create index tk on t(k); "
+                    "with recursive c(x) as (select 0 union all select x + 1 from c where x < %ld) "
+                    "insert into t select x, x * 7919 %% 1000003, printf('%%0200d', x) from c; pragma wal_checkpoint(truncate)",
+            rows - 1);
+        it->rows = rows;
+        it->read = prepare(it->db, "select length(v) from t where k = ?");
+        it->scan = prepare(it->db, "select sum(length(v)) from t where id between ? and ?");
+        it->change = prepare(it->db, "update t set v = printf('%0200d', ?2) where id = ?1");
+        it->add = prepare(it->db, "insert into t values(?1, ?2, printf('%0200d', ?1))");
+    }
+}
+
+static void end(void) {
+    for (database *it = databases; it < &databases[count]; it++) {
+        sqlite3_finalize(it->read);
+        sqlite3_finalize(it->scan);
+        sqlite3_finalize(it->change);
+        sqlite3_finalize(it->add);
+        sqlite3_close(it->db);
+    }
 }
 
 static void step(sqlite3_stmt *statement, int64_t first, int64_t second) {
@@ -78,11 +119,12 @@ static void step(sqlite3_stmt *statement, int64_t first, int64_t second) {
     sqlite3_reset(statement);
 }
 
-static uint64_t draw(uint64_t *seed) {
-    *seed ^= *seed << 13;
-    *seed ^= *seed >> 7;
-    return *seed ^= *seed << 17;
+static uint64_t draw(uint64_t *from) {
+    *from ^= *from << 13;
+    *from ^= *from >> 7;
+    return *from ^= *from << 17;
 }
+static int64_t below(int64_t most) { return (int64_t)(draw(&seed) >> 20) % most; }
 
 static double seconds_of(clockid_t clock) {
     struct timespec time;
@@ -90,105 +132,202 @@ static double seconds_of(clockid_t clock) {
     return (double)time.tv_sec + (double)time.tv_nsec / 1e9;
 }
 
-static long count(sqlite3 *db, int what) {
-    int number, most;
-    sqlite3_db_status(db, what, &number, &most, 1);
-    return number;
+/* Adds the hits and misses since the last call. */
+static void count_hits(long *hits, long *misses, int but) {
+    for (int at = 0; at < count; at++) {
+        int hit, miss, most;
+        sqlite3_db_status(databases[at].db, SQLITE_DBSTATUS_CACHE_HIT, &hit, &most, 1);
+        sqlite3_db_status(databases[at].db, SQLITE_DBSTATUS_CACHE_MISS, &miss, &most, 1);
+        if (at != but) *hits += hit, *misses += miss;
+    }
 }
 
-static void *work(void *at) {
+static void *operate(void *at) {
     worker *me = at;
-    uint64_t seed = 88172645463325252u + (unsigned)me->number;
-    sqlite3_stmt *by_number = prepare(me->db, "select length(v) from t where id = ?");
-    sqlite3_stmt *by_key = prepare(me->db, "select id from t where k = ?");
-    sqlite3_stmt *many = prepare(me->db, "select sum(length(v)) from t where id between ? and ?");
-    sqlite3_stmt *change = prepare(me->db, "update t set v = printf('%0200d', ?2) where id = ?1");
+    const database *mine = &databases[me->number];
+    uint64_t random = seed + (unsigned)me->number;
+    sqlite3_stmt *by_number = prepare(mine->db, "select length(v) from t where id = ?");
+    sqlite3_stmt *by_key = prepare(mine->db, "select id from t where k = ?");
     const double begin = seconds_of(CLOCK_THREAD_CPUTIME_ID);
     for (int at = 0; at < OPERATIONS; at++) {
-        const int64_t row = (int64_t)(draw(&seed) >> 20) % me->rows, what = (int64_t)(draw(&seed) >> 20) % 100;
+        const int64_t row = (int64_t)(draw(&random) >> 20) % mine->rows, what = (int64_t)(draw(&random) >> 20) % 100;
         if (what < 45) step(by_number, row, 0);
         else if (what < 75) step(by_key, row * 7919 % 1000003, 0);
-        else if (what < 85) step(many, row, row + 200);
+        else if (what < 85) step(mine->scan, row, row + 200);
         else {
-            run(me->db, "begin", 0);
-            for (int change_at = 0; change_at < 10; change_at++) step(change, (row + change_at * 977) % me->rows, at);
-            run(me->db, "commit", 0);
+            run(mine->db, "begin", 0);
+            for (int change_at = 0; change_at < 10; change_at++) step(mine->change, (row + change_at * 977) % mine->rows, at);
+            run(mine->db, "commit", 0);
         }
     }
     me->seconds = seconds_of(CLOCK_THREAD_CPUTIME_ID) - begin;
     sqlite3_finalize(by_number);
     sqlite3_finalize(by_key);
-    sqlite3_finalize(many);
-    sqlite3_finalize(change);
     return NULL;
 }
 
-static void measure_time(int threads, long pages) {
-    worker workers[MOST_THREADS];
-    for (int at = 0; at < threads; at++) {
-        workers[at] = (worker){.number = at, .rows = 60000, .db = make(at, 60000, pages)};
-        (void)(count(workers[at].db, SQLITE_DBSTATUS_CACHE_HIT) + count(workers[at].db, SQLITE_DBSTATUS_CACHE_MISS));
+static void *select_in(void *at) {
+    worker *me = at;
+    sqlite3_stmt *select[MOST_DATABASES];
+    for (int at = me->number; at < count; at += me->threads)
+        select[at] = prepare(databases[at].db, "select k from t where id in (1, 5, ?, 11)");
+    const double begin = seconds_of(CLOCK_THREAD_CPUTIME_ID);
+    for (int left = STATEMENTS, at = me->number; left > 0; left--, at += me->threads) {
+        if (at >= count) at = me->number;
+        step(select[at], left % 900, 0);
     }
-    for (int at = 0; at < threads; at++) pthread_create(&workers[at].thread, NULL, work, &workers[at]);
+    me->seconds = seconds_of(CLOCK_THREAD_CPUTIME_ID) - begin;
+    for (int at = me->number; at < count; at += me->threads) sqlite3_finalize(select[at]);
+    return NULL;
+}
+
+/* Has each of so many threads do the work: the seconds of CPU time of all. */
+static double seconds_by(int threads, void *(*work)(void *)) {
+    worker workers[MOST_THREADS];
     double seconds = 0;
-    long hits = 0, misses = 0;
+    for (int at = 0; at < threads; at++) {
+        workers[at] = (worker){.number = at, .threads = threads};
+        pthread_create(&workers[at].thread, NULL, work, &workers[at]);
+    }
     for (int at = 0; at < threads; at++) {
         pthread_join(workers[at].thread, NULL);
         seconds += workers[at].seconds;
-        hits += count(workers[at].db, SQLITE_DBSTATUS_CACHE_HIT);
-        misses += count(workers[at].db, SQLITE_DBSTATUS_CACHE_MISS);
-        sqlite3_close(workers[at].db);
     }
+    return seconds;
+}
+
+/* A row by the Zipf law of this number. */
+static int64_t skewed(int skew, int64_t rows) {
+    const double wanted = (double)(draw(&seed) >> 11) / 9007199254740992.0 * skews[skew][rows - 1];
+    int64_t low = 0, high = rows - 1;
+    while (low < high) {
+        const int64_t middle = (low + high) / 2;
+        if (skews[skew][middle] < wanted) low = middle + 1;
+        else high = middle;
+    }
+    return low;
+}
+
+/* Reads a row of a database by its index; those that are read most lie all over the table. */
+static void read_row(int number, int64_t row) {
+    const database *it = &databases[number];
+    step(it->read, (int64_t)((uint64_t)row * 2654435761u % (uint64_t)it->rows) * 7919 % 1000003, 0);
+}
+static void read_skewed(int number, int skew) { read_row(number, skewed(skew, databases[number].rows)); }
+
+/* The steps of the workloads. The last database is the one that is scanned, read at random, or read round and round. */
+static void read_by_skews(int at) { read_skewed(at % 6, at % 6 + 1); }
+static void read_hot(int hot) { read_skewed(below(100) < 80 ? hot : (int)below(count - 1), 3); }
+static void scan_beside(int at) {
+    read_hot(0);
+    if (at % 8 == 0) step(databases[count - 1].scan, (int64_t)at / 8 * 400 % 50000, (int64_t)at / 8 * 400 % 50000 + 400);
+}
+static void pollute(int at) {
+    if (at % 2) read_row(count - 1, below(databases[count - 1].rows));
+    else read_skewed((int)below(count - 1), 5);
+}
+static void loop(int at) {
+    const int64_t row = (int64_t)at / 2 * 13 % 40000;
+    if (at % 2) step(databases[count - 1].scan, row, row);
+    else read_skewed((int)below(count - 1), 5);
+}
+static void move(int at) { read_hot(at / 10000 % count); }
+static void transact(int at) {
+    const int number = (int)below(count);
+    run(databases[number].db, "begin", 0);
+    for (int each = 0; each < 4; each++) read_skewed(number, 5);
+    for (int each = 0; each < 2; each++) step(databases[number].change, skewed(5, databases[number].rows), at);
+    run(databases[number].db, "commit", 0);
+}
+static void read_many(int at) {
+    (void)at;
+    read_skewed((int)skewed(4, count), 4);
+}
+static void grow(int at) {
+    database *it = &databases[at % count];
+    run(it->db, "begin", 0);
+    for (int each = 0; each < 20; each++, it->rows++) step(it->add, it->rows, it->rows * 7919 % 1000003);
+    run(it->db, "commit", 0);
+    for (int each = 0; each < 10; each++) {
+        const int64_t row = it->rows - 1 - skewed(5, it->rows);
+        step(it->scan, row, row);
+    }
+    for (int each = 0; each < 10; each++) read_skewed(at % count, 3);
+    if (at % 1000 == 999) run(it->db, "delete from t where id % 3; vacuum", 0);
+}
+
+static const struct {
+    const char *name;
+    void (*step)(int at);
+    int databases, rows, steps;
+    bool is_last_left_out; /* of the hits */
+} workloads[] = {
+    {"zipf", read_by_skews, 6, 50000, 200000, false}, {"scan", scan_beside, 8, 50000, 100000, true},
+    {"polluter", pollute, 4, 50000, 200000, true},    {"loop", loop, 4, 50000, 200000, false},
+    {"moving", move, 8, 50000, 200000, false},        {"short", transact, 8, 50000, 30000, false},
+    {"many", read_many, 40, 10000, 200000, false},    {"growth", grow, 4, 10000, 8000, false},
+};
+
+static void measure_hits(const char *name, long pages, long limit) {
+    const int most = sizeof workloads / sizeof *workloads;
+    int which = 0;
+    while (which < most && strcmp(workloads[which].name, name)) which++;
+    if (which == most) exit(EXIT_FAILURE);
+    for (int skew = 0; skew < SKEWS; skew++) {
+        skews[skew] = malloc(100000 * sizeof(double));
+        for (int at = 0; at < 100000; at++)
+            skews[skew][at] = (at ? skews[skew][at - 1] : 0) + 1 / pow(at + 1, 0.5 + 0.1 * skew);
+    }
+    const int wanted = workloads[which].databases;
+    make(wanted, workloads[which].rows, is_tempolemon || is_unified ? 1000000 : pages / wanted);
+    if (limit) {
+        char tenant[16];
+        snprintf(tenant, sizeof tenant, "t%d", count - 1);
+        need_cache(tempolemon_pcache_limit(tenant, (size_t)limit * PAGE));
+    }
+    long hits = 0, misses = 0;
+    const int but = workloads[which].is_last_left_out ? count - 1 : -1;
+    for (int at = 0; at < workloads[which].steps; at++) {
+        if (at == workloads[which].steps / 4) {
+            count_hits(&hits, &misses, but);
+            hits = misses = 0;
+        }
+        workloads[which].step(at);
+    }
+    count_hits(&hits, &misses, but);
+    printf("%.1f\n", 100.0 * (double)hits / (double)(hits + misses));
+}
+
+static void measure_time(int threads, long pages) {
+    long hits = 0, misses = 0;
+    make(threads, 60000, pages);
+    count_hits(&hits, &misses, -1);
+    hits = misses = 0;
+    const double seconds = seconds_by(threads, operate);
+    count_hits(&hits, &misses, -1);
     printf("%.2f %.2f %.1f\n", seconds * 1e6 / threads / OPERATIONS, 100.0 * (double)hits / (double)(hits + misses),
            (double)(hits + misses) / threads / OPERATIONS);
 }
 
-static void measure_hits(int is_tempolemon, long budget, long each, int has_scanner, long limit) {
-    enum { ROWS = 50000, HOT = 0, SCANNER = 1 };
-    static double sums[ROWS];
-    sqlite3 *dbs[DATABASES];
-    sqlite3_stmt *read[DATABASES], *scan = NULL;
-    (void)budget;
-    for (int at = 0; at < DATABASES; at++) {
-        char name[16];
-        snprintf(name, sizeof name, "t%d", at);
-        const char *why = is_tempolemon ? tempolemon_pcache_tenant(name) : NULL;
-        if (!why && is_tempolemon && limit && at == SCANNER) why = tempolemon_pcache_limit(name, (size_t)limit * PAGE);
-        if (why) exit((fprintf(stderr, "%s\n", why), EXIT_FAILURE));
-        dbs[at] = make(at, ROWS, each);
-        read[at] = prepare(dbs[at], "select length(v) from t where k = ?");
+static void measure_in(int threads, int connections) {
+    make(connections, 1000, 1000);
+    printf("%.2f\n", seconds_by(threads, select_in) * 1e6 / threads / STATEMENTS);
+}
+
+/* Has a statement open on each connection. */
+static void measure_open(const char *what, int connections) {
+    sqlite3_stmt *open[MOST_DATABASES];
+    const bool is_change = !strcmp(what, "change");
+    make(connections, 1000, 500);
+    for (int at = 0; at < connections; at++) {
+        if (is_change) run(databases[at].db, "begin", 0);
+        for (int row = 0; row < 1000 && is_change; row += 100) step(databases[at].change, row, 1);
+        open[at] = prepare(databases[at].db, !strcmp(what, "union") ? "select distinct k from t where id in (1, 500, 900) union "
+                                                                      "select id from t where id in (7, 800)"
+                                                                    : "select id, v from t where k >= 500000");
+        need(sqlite3_step(open[at]), databases[at].db, what);
     }
-    scan = prepare(dbs[SCANNER], "select sum(length(v)) from t where id between ?1 and ?1 + 400");
-    for (int at = 0; at < ROWS; at++) sums[at] = (at ? sums[at - 1] : 0) + 1 / pow(at + 1, 0.8);
-    uint64_t seed = 123456789;
-    long hits = 0, misses = 0, hot_hits = 0, hot_misses = 0;
-    const int reads = has_scanner ? READS / 4 : READS;
-    for (int at = 0; at < reads; at++) {
-        const uint64_t drawn = draw(&seed);
-        const int db = drawn % 100 < 80 ? HOT : 1 + (int)((drawn >> 8) % (DATABASES - 1));
-        const double wanted = (double)(drawn >> 11) / 9007199254740992.0 * sums[ROWS - 1];
-        int low = 0, high = ROWS - 1;
-        if (at == reads / 4)
-            for (int each_db = 0; each_db < DATABASES; each_db++)
-                (void)(count(dbs[each_db], SQLITE_DBSTATUS_CACHE_HIT) + count(dbs[each_db], SQLITE_DBSTATUS_CACHE_MISS));
-        if (has_scanner && at % 8 == 0) step(scan, (int64_t)at / 8 * 400 % ROWS, 0);
-        while (low < high) {
-            const int middle = (low + high) / 2;
-            if (sums[middle] < wanted) low = middle + 1;
-            else high = middle;
-        }
-        step(read[db], (int64_t)((uint32_t)low * 2654435761u % ROWS) * 7919 % 1000003, 0);
-    }
-    for (int at = 0; at < DATABASES; at++) {
-        const long hit = count(dbs[at], SQLITE_DBSTATUS_CACHE_HIT), miss = count(dbs[at], SQLITE_DBSTATUS_CACHE_MISS);
-        if (at == HOT) hot_hits = hit, hot_misses = miss;
-        if (!has_scanner || at != SCANNER) hits += hit, misses += miss;
-        sqlite3_finalize(read[at]);
-        if (at == SCANNER) sqlite3_finalize(scan);
-        sqlite3_close(dbs[at]);
-    }
-    printf("%.1f %.1f\n", 100.0 * (double)hits / (double)(hits + misses),
-           100.0 * (double)hot_hits / (double)(hot_hits + hot_misses));
+    for (int at = 0; at < connections; at++) sqlite3_finalize(open[at]);
 }
 
 /* Has SQLite keep all pages in one list, in a buffer of so many. */
@@ -196,22 +335,27 @@ static void unify(long pages) {
     int header = 0;
     sqlite3_config(SQLITE_CONFIG_PCACHE_HDRSZ, &header);
     const int size = (PAGE + header + 7) / 8 * 8;
-    sqlite3_config(SQLITE_CONFIG_PAGECACHE, malloc((size_t)size * (size_t)pages), size, (int)pages);
+    need(sqlite3_config(SQLITE_CONFIG_SINGLETHREAD), NULL, "SINGLETHREAD"); /* else each database has a list of its own */
+    need(sqlite3_config(SQLITE_CONFIG_PAGECACHE, malloc((size_t)size * (size_t)pages), size, (int)pages), NULL, "PAGECACHE");
 }
 
 int main(int words_count, char **words) {
-    if (words_count < 6) return EXIT_FAILURE;
-    const int is_time = !strcmp(words[3], "time"), is_tempolemon = !strcmp(words[1], "tempolemon");
-    const int is_unified = !strcmp(words[1], "unified");
-    const long first = atol(words[4]), second = atol(words[5]), limit = words_count > 6 ? atol(words[6]) : 0;
-    /* beside the pages of the databases, a budget for times has some for the limits' slack */
-    const long budget = is_time ? first * second * 5 / 4 : first;
+    if (words_count < 5) return EXIT_FAILURE;
+    const bool is_time = !strcmp(words[3], "time"), is_in = !strcmp(words[3], "in");
+    const bool is_open = !strcmp(words[3], "point") || !strcmp(words[3], "union") || !strcmp(words[3], "change");
+    const long first = atol(words[4]), second = words_count > 5 ? atol(words[5]) : 0;
+    has_tenants = !strcmp(words[1], "tenants");
+    is_tempolemon = has_tenants || !strcmp(words[1], "tempolemon");
     folder = words[2];
-    const char *why = is_tempolemon ? tempolemon_pcache_install((size_t)budget * PAGE) : NULL;
-    if (why) exit((fprintf(stderr, "%s\n", why), EXIT_FAILURE));
-    if (is_unified) unify(budget);
+    /* beside the pages of the databases, a budget for times has some for the limits' slack */
+    const long budget = is_time ? first * second * 5 / 4 : is_in ? second * 128 : first;
+    if (is_tempolemon) need_cache(tempolemon_pcache_install((size_t)budget * PAGE));
+    if (!strcmp(words[1], "unified")) unify(budget), is_unified = true;
     if (is_time) measure_time((int)first, second);
-    else measure_hits(is_tempolemon, budget, is_tempolemon || is_unified ? 1000000 : budget / DATABASES, second != 0, limit);
+    else if (is_in) measure_in((int)first, (int)second);
+    else if (is_open) measure_open(words[3], (int)second);
+    else measure_hits(words[3], first, second);
+    end();
     sqlite3_shutdown();
     return EXIT_SUCCESS;
 }
