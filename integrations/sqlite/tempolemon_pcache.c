@@ -347,7 +347,7 @@ static int start(void *unused) {
     }
     const uint32_t wanted = pool.budget / 4096, batch = wanted < 1 ? 1 : wanted > 32 ? 32 : wanted;
     const tempolemon_sizes sizes = {.frames = pool.frames, .cpus = LANES, .batch = batch, .high = 2 * batch, .stock = batch,
-                                    .reclaim_batch = RECLAIM_BATCH, .no_kill = 1, .fair = 1};
+                                    .reclaim_batch = RECLAIM_BATCH, .no_kill = 1, .proportional = 1};
     uint8_t status = tempolemon_zone_boot(&sizes, &pool.zone);
     for (uint32_t at = 1; at <= LANES && status == TEMPOLEMON_DONE; at++) {
         pool.lanes[at] = (lane){.mutex = PTHREAD_MUTEX_INITIALIZER};

@@ -41,8 +41,8 @@ pub struct Sizes {
     pub reclaim_batch: u32,
     /// 0, or 1: nobody is killed, and a charge without room is refused.
     pub no_kill: u32,
-    /// 0, or 1: each pass of reclaim begins after the group that had the last turn, and goes round.
-    pub fair: u32,
+    /// 0, or 1: reclaim first takes of each group in proportion to its clean pages.
+    pub proportional: u32,
 }
 
 /// What a zone reports at its end, in the words of docs/MANUAL.md, "The end, and --audit".

@@ -1,6 +1,6 @@
 //! What is measured on a system: commands that take the zone lock, and what its CPUs do without it.
 ghost use Rattle.std.specs.Prelude.{◌≡◌, length};
-ghost use Rattle.mem_system.specs.Commands.{IsOfZone};
+ghost use Rattle.mem_system.specs.{IsOfZone};
 
 use crate::costs::{Pace, Row, Subject, print_rows};
 use crate::prepaid::print_threads;
@@ -8,7 +8,7 @@ use crate::tables::Table;
 use anyhow::{Context, Result, bail};
 use cpu_part::BootName;
 use group_tree::group::GroupId;
-use mem_system::{Boot, Cpu, Held, LockedCommand, NoGate, ReplyWithText, System, boot};
+use mem_system::{Boot, Cpu, Held, NoGate, ReplyWithText, System, TextCommand, boot};
 use std::alloc::Global;
 use std::marker::Brand;
 use std::sync::Wait;
@@ -50,7 +50,7 @@ fn visit_here<N: BootName, R: Wait>(
     rt: &R,
     system: &System<N>,
     cpu: &mut Cpu<N>,
-    cmd: &LockedCommand<'_>,
+    cmd: &TextCommand<'_>,
     reply: &mut ReplyWithText,
 )
     requires { IsOfZone N.table cmd.now }
@@ -63,7 +63,7 @@ fn visit<N: BootName, R: Wait>(
     rt: &R,
     system: &System<N>,
     cpu: &mut Cpu<N>,
-    cmd: &LockedCommand<'_>,
+    cmd: &TextCommand<'_>,
 ) -> ReplyWithText
     requires { IsOfZone N.table cmd.now }
 {
@@ -77,7 +77,7 @@ fn visit_into<N: BootName, R: Wait>(
     rt: &R,
     system: &System<N>,
     cpu: &mut Cpu<N>,
-    cmd: &LockedCommand<'_>,
+    cmd: &TextCommand<'_>,
     reply: &mut ReplyWithText,
 )
     requires { IsOfZone N.table cmd.now }
@@ -88,7 +88,7 @@ fn visit_into<N: BootName, R: Wait>(
 // Settles by a visit. The reply is matched and not passed on.
 fn settle_once<N: BootName, R: Wait>(rt: &R, system: &System<N>, cpu: &mut Cpu<N>) -> bool {
     let mut reply = ReplyWithText::Done;
-    visit_here(rt, system, cpu, &LockedCommand::Settle, &mut reply);
+    visit_here(rt, system, cpu, &TextCommand::Settle, &mut reply);
     matches!(reply, ReplyWithText::Done)
 }
 
@@ -99,7 +99,7 @@ fn make<N: BootName, R: Wait>(
     cpu: &mut Cpu<N>,
     path: &[u8],
 ) -> Result<GroupId> {
-    match visit(rt, system, cpu, &LockedCommand::Mkdir { path }) {
+    match visit(rt, system, cpu, &TextCommand::Mkdir { path }) {
         ReplyWithText::Group(group) => Ok(group),
         _ => bail!("a group was not made"),
     }
@@ -120,7 +120,7 @@ pub fn make_all<N: BootName, R: Wait>(
 /// Allocates one frame for the group of depth 1.
 pub fn alloc<N: BootName, R: Wait>(rt: &R, system: &System<N>, cpu: &mut Cpu<N>) -> Result<()> {
     let path = SHALLOW;
-    match visit(rt, system, cpu, &LockedCommand::Alloc { path, order: 0 }) {
+    match visit(rt, system, cpu, &TextCommand::Alloc { path, order: 0 }) {
         ReplyWithText::Frame(_) => Ok(()),
         _ => bail!("a frame was not allocated"),
     }
@@ -138,7 +138,7 @@ fn alloc_and_release<N: BootName, R: Wait>(
         rt,
         system,
         cpu,
-        &LockedCommand::Alloc { path, order: 0 },
+        &TextCommand::Alloc { path, order: 0 },
         reply,
     );
     let ReplyWithText::Frame(number) = *reply else {
@@ -148,7 +148,7 @@ fn alloc_and_release<N: BootName, R: Wait>(
         return false;
     };
     let frame = frame.number();
-    visit_into(rt, system, cpu, &LockedCommand::Release { frame }, reply);
+    visit_into(rt, system, cpu, &TextCommand::Release { frame }, reply);
     matches!(reply, ReplyWithText::Returned)
 }
 
@@ -192,7 +192,7 @@ fn settle_into<N: BootName, R: Wait>(
 ) -> bool {
     let mut reply = ReplyWithText::Free;
     for _ in 0..count {
-        visit_into(rt, system, cpu, &LockedCommand::Settle, &mut reply);
+        visit_into(rt, system, cpu, &TextCommand::Settle, &mut reply);
         let ReplyWithText::Done = reply else {
             return false;
         };
@@ -208,7 +208,7 @@ fn settle_by_value<N: BootName, R: Wait>(
     count: u32,
 ) -> bool {
     for _ in 0..count {
-        let ReplyWithText::Done = visit(rt, system, cpu, &LockedCommand::Settle) else {
+        let ReplyWithText::Done = visit(rt, system, cpu, &TextCommand::Settle) else {
             return false;
         };
     }

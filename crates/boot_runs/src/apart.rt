@@ -6,7 +6,7 @@ use crate::life::{SIZES, answers, ends, expect_true};
 use cpu_part::BootName;
 use frame_word::{Frame, Get};
 use group_tree::group::GroupId;
-use mem_system::{Boot, Cpu, Held, LockedCommand, ReplyWithText, System, boot};
+use mem_system::{Boot, Cpu, Held, ReplyWithText, System, TextCommand, boot};
 use std::alloc::Global;
 use std::marker::Brand;
 use std::process::Abort;
@@ -59,23 +59,17 @@ fn charges_and_pins<N: BootName, R: Wait + Abort>(rt: &R, system: &System<N>, cp
         rt,
         system,
         cpu,
-        &LockedCommand::Mkdir { path },
+        &TextCommand::Mkdir { path },
         &ReplyWithText::Group(group),
     );
     answers(
         rt,
         system,
         cpu,
-        &LockedCommand::Alloc { path, order: 0 },
+        &TextCommand::Alloc { path, order: 0 },
         &ReplyWithText::Frame(0),
     );
-    answers(
-        rt,
-        system,
-        cpu,
-        &LockedCommand::Settle,
-        &ReplyWithText::Done,
-    );
+    answers(rt, system, cpu, &TextCommand::Settle, &ReplyWithText::Done);
     let got = cpu.get(system.tables(), frame);
     expect_true(rt, got == Ok(Get::Held));
 }

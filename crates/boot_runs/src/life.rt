@@ -1,11 +1,11 @@
 //! A boot of 16 frames and two CPUs starts. Visits make, limit, read and remove a group.
 ghost use Rattle.std.specs.Prelude.{◌≡◌, ◌<◌, length};
-ghost use Rattle.mem_system.specs.Commands.{IsOfZone};
+ghost use Rattle.mem_system.specs.{IsOfZone};
 
 use cpu_part::BootName;
 use group_tree::fault::Fault;
 use group_tree::group::GroupId;
-use mem_system::{Audit, Boot, Cpu, LockedCommand, ReplyWithText, System, boot};
+use mem_system::{Audit, Boot, Cpu, ReplyWithText, System, TextCommand, boot};
 use std::alloc::Global;
 use std::marker::Brand;
 use std::process::Abort;
@@ -34,7 +34,7 @@ fn visit<N: BootName, R: Wait>(
     rt: &R,
     system: &System<N>,
     cpu: &mut Cpu<N>,
-    cmd: &LockedCommand<'_>,
+    cmd: &TextCommand<'_>,
 ) -> ReplyWithText
     requires { IsOfZone N.table cmd.now }
 {
@@ -46,7 +46,7 @@ pub fn answers<N: BootName, R: Wait + Abort>(
     rt: &R,
     system: &System<N>,
     cpu: &mut Cpu<N>,
-    cmd: &LockedCommand<'_>,
+    cmd: &TextCommand<'_>,
     reply: &ReplyWithText,
 )
     requires { IsOfZone N.table cmd.now }
@@ -64,7 +64,7 @@ fn reads_limit<N: BootName, R: Wait + Abort>(
 ) {
     let path: &[u8] = b"/a";
     let file: &[u8] = b"memory.max";
-    match visit(rt, system, cpu, &LockedCommand::Read { path, file }) {
+    match visit(rt, system, cpu, &TextCommand::Read { path, file }) {
         ReplyWithText::Text(found) => expect_true(rt, found.as_bytes() == text),
         _ => panic!(rt; "no text"),
     }
@@ -81,12 +81,12 @@ fn makes_and_reads<N: BootName, R: Wait + Abort>(rt: &R, system: &System<N>, cpu
         rt,
         system,
         cpu,
-        &LockedCommand::Mkdir { path },
+        &TextCommand::Mkdir { path },
         &ReplyWithText::Group(group),
     );
     expect_true(rt, system.find(rt, cpu, path) == Some(group));
     reads_limit(rt, system, cpu, b"max\n");
-    let write = LockedCommand::Write { path, file, value };
+    let write = TextCommand::Write { path, file, value };
     answers(rt, system, cpu, &write, &ReplyWithText::Done);
     reads_limit(rt, system, cpu, b"8192\n");
 }
@@ -116,10 +116,10 @@ fn removes_group<N: BootName, R: Wait + Abort>(rt: &R, system: &System<N>, cpu: 
         rt,
         system,
         cpu,
-        &LockedCommand::Rmdir { path },
+        &TextCommand::Rmdir { path },
         &ReplyWithText::Done,
     );
-    answers(rt, system, cpu, &LockedCommand::Rmdir { path }, &no_group);
+    answers(rt, system, cpu, &TextCommand::Rmdir { path }, &no_group);
 }
 
 /// Shuts the system down, in which no CPU has a pin.

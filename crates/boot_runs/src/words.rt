@@ -123,9 +123,9 @@ fn asks_for_what_the_words_say(rt: HostRuntime) {
 
 #[test]
 fn asks_for_the_choices(rt: HostRuntime) {
-    let words = "lint --fair --reclaim-batch 64 --no-kill";
+    let words = "lint --proportional --reclaim-batch 64 --no-kill";
     let wanted = Choices {
-        is_fair: true,
+        is_proportional: true,
         is_no_kill: true,
         reclaim_batch: 64,
     };

@@ -8,9 +8,10 @@ use Rattle.std.proofs.lemmas.List.{get_or_default, get_or-map, get_or-set_other,
 use Rattle.std.proofs.lemmas.List.Elements.{All-cons, All-contains, All-head, All-nil, All-tail, Contains-get_or}
 use Rattle.group_tree.specs.declared.group.Group.{Group}
 use Rattle.group_tree.specs.declared.event.EventKey.{EventKey}
-use Rattle.group_tree.specs.{with_one_more, AreGroups, has_group, in_subtree, new_row, with_group, limited, flagged, on_path}
+use Rattle.group_tree.specs.{with_one_more, has_group, in_subtree, new_row, with_group, limited, flagged, on_path}
 use Rattle.group_tree.specs.Groups.{with_limit, with_oom_group, without_group}
 use Rattle.group_tree.proofs.GroupLemmas.{has_group-contains, has_group-is, group_at-contains, limited-number, flagged-number}
+pub use Rattle.group_tree.proofs.CallerLemmas.{number_below}
 use Rattle.group_charge.specs.Charges.{Account, AreCharges, ReclaimSettings, account_at, added, charged, empty_account, pages_of, peaked, taken, usage_charged}
 use Rattle.group_charge.specs.Charges.{with_charge, with_event_at}
 use Rattle.group_charge.specs.Kept.{AccountsOnPath, AreUsages, account_by, accounts_of, ledger_of, usage_by, with_event, with_local_event, with_usage_peak}
@@ -210,13 +211,6 @@ pub set_pages : (kept : List Account) (i g n : ℕ) (d : Account) → i < length
 set_pages kept i g n d within same =
     ap (λ (a : Account). set kept i (record a { pages = n })) (read_at kept i g d (empty_account 0) within same)
     ∙ ap (λ k. set kept k (record (account_by kept g) { pages = n })) same
-
--- the number of a group that is there is below 64
-pub number_below : (groups : List Group) (g : ℕ) → AreGroups groups → IsTrue (has_group groups g) → g < 64
-number_below groups g facts there =
-    let w = has_group-is groups g there in
-    let c = group_at-contains groups g w.0 w.1 in
-    subst (λ k. k < 64) c.1 (All-contains (λ (x : Group). x.number < 64) groups w.0 facts.numbers c.0)
 
 -- the account of a group that is there is the one kept under its number
 pub account_kept : (groups : List Group) (kept : List Account) (s : List ReclaimSettings) (g : ℕ) → AreCharges (ledger_of groups kept s) → IsTrue (has_group groups g) →

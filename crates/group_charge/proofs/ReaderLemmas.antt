@@ -8,12 +8,11 @@ use Rattle.std.proofs.lemmas.Bool.{cond-true, cond-false, cases_Bool, cases_eq, 
 use Rattle.std.proofs.lemmas.List.Folds.{find-append}
 use Rattle.std.proofs.lemmas.List.Sums.{sum_by_more_le_part}
 use Rattle.std.proofs.lemmas.List.Elements.{Contains-get_or}
-use Rattle.group_tree.specs.declared.group.Group.{Group}
 use Rattle.group_tree.specs.declared.event.EventKey.{EventKey}
 use Rattle.group_tree.specs.{no_events, with_one_more, in_subtree, at_group, on_path, peak_after}
-use Rattle.group_tree.specs.Groups.{group_at, has_group, without_group}
+use Rattle.group_tree.specs.Groups.{has_group, without_group}
 use Rattle.group_tree.proofs.GroupLemmas.{find-filter, find-map, found_in, found_passes, is_some-find}
-use Rattle.group_tree.proofs.CallerLemmas.{in_subtree-above, in_subtree-refl}
+use Rattle.group_tree.proofs.CallerLemmas.{has_group-without_own, in_subtree-above, in_subtree-refl}
 use Rattle.group_charge.specs.Charges.{Account, Ledger, AreCharges, CountsEvent, PagesRise, PeaksRise, SameEvents, SamePages, SamePeaks, account_at}
 use Rattle.group_charge.specs.Charges.{pages_of, peak_of, events_of, events_local_of, current_of, usage_charged, added, taken, peaked, with_event_at, charged}
 use Rattle.group_charge.specs.Charges.{empty_account, with_charge, with_uncharge, with_noted, with_new_group}
@@ -276,22 +275,6 @@ unfolding pages_of
 own_pages l g k d facts lt same =
     let a = get_or l.accounts k d in
     ap (λ o. option_map_or (λ (x : Account). x.pages) o 0) (ap (account_at l) (sym same) ∙ account_at-there l a facts (Contains-get_or l.accounts k d lt))
-
--- who was filtered out is not there
-not_there : (g : ℕ) (xs : List Group) → find (λ (x : Group). x.number == g) (filter (λ (x : Group). not (x.number == g)) xs) ≡ None
-not_there g [] = refl
-not_there g (x ∷ xs) =
-    ⊎_elim
-    (λ t. subst (λ b. find (λ (y : Group). y.number == g)
-    (cond (not b) (x ∷ filter (λ (y : Group). not (y.number == g)) xs) (filter (λ (y : Group). not (y.number == g)) xs)) ≡ None) (sym t) (not_there g xs))
-    (λ f. subst (λ b. find (λ (y : Group). y.number == g)
-    (cond (not b) (x ∷ filter (λ (y : Group). not (y.number == g)) xs) (filter (λ (y : Group). not (y.number == g)) xs)) ≡ None) (sym f)
-    (cond-false (x.number == g) (Some x) (find (λ (y : Group). y.number == g) (filter (λ (y : Group). not (y.number == g)) xs)) f ∙ not_there g xs))
-    (cases_Bool (x.number == g))
-
-has_group-without_own : (groups : List Group) (g : ℕ) → has_group (without_group groups g) g ≡ false
-unfolding has_group group_at without_group
-has_group-without_own groups g = ap is_some (not_there g groups)
 
 -- a group that goes with nothing charged changes no usage, and its number has none then
 pub removed_usage : (l : Ledger) (g m : ℕ) → AreCharges l → IsTrue (has_group l.groups g) → current_of l g ≡ 0 →

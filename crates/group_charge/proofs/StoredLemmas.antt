@@ -4,7 +4,7 @@ use Rattle.std.proofs.Common.{◌≡◌, ℕ, ◌+◌, ◌-◌, ◌≤◌, Bool,
 use Rattle.std.proofs.lemmas.Bool.{cases_Bool, cases_eq, cases_lt, cond-true, cond-false}
 use Rattle.std.proofs.lemmas.List.{get_or-replicate, get_or_past, length-replicate}
 use Rattle.group_tree.specs.declared.group.Group.{Group}
-use Rattle.group_tree.specs.{is_passed, has_group, in_subtree}
+use Rattle.group_tree.specs.{most_groups, is_passed, has_group, in_subtree}
 use Rattle.group_tree.specs.declared.event.EventKey.{EventKey}
 use Rattle.group_tree.proofs.GroupLemmas.{CanMake}
 use Rattle.group_tree.proofs.Walks.{passed_all}
@@ -19,10 +19,10 @@ use Rattle.group_charge.proofs.ReaderLemmas.{removed_usage}
 -- ---- room by what is stored
 
 -- ---- at first
-pub stored_initial : AreUsages initial_ledger (replicate 64 0)
+pub stored_initial : AreUsages initial_ledger (replicate most_groups 0)
 stored_initial = record {
-  size = let zero : ℕ = 0 in length-replicate 64 zero;
-  sums = λ g. zeros 64 g ∙ sym (none g);
+  size = let zero : ℕ = 0 in length-replicate most_groups zero;
+  sums = λ g. zeros most_groups g ∙ sym (none g);
 }
   where
     zeros : (n g : ℕ) → usage_by (replicate n 0) g ≡ 0
@@ -37,7 +37,7 @@ stored_initial = record {
     none g = omega (arith, usage-le-total initial_ledger.groups initial_ledger.accounts g)
 
 -- ---- after a charge, and after one that was refused
-pub stored_charged : (l : Ledger) (old new : List ℕ) (g n : ℕ) → AreCharges l → IsTrue (has_group l.groups g) → AreUsages l old → length new ≡ 64 →
+pub stored_charged : (l : Ledger) (old new : List ℕ) (g n : ℕ) → AreCharges l → IsTrue (has_group l.groups g) → AreUsages l old → length new ≡ most_groups →
     UsagesPassed l.groups g None (λ pages. pages + n) old new → AreUsages (with_charge l g n) new
 stored_charged l old new g n facts there are size walked = record {
   size = size;
@@ -48,7 +48,7 @@ stored_charged l old new g n facts there are size walked = record {
 
 -- ---- after pages were taken back
 pub stored_taken : (l : Ledger) (old new : List ℕ) (g n : ℕ) → AreCharges l → IsTrue (has_group l.groups g) → n ≤ pages_of l g → AreUsages l old →
-    length new ≡ 64 → UsagesPassed l.groups g None (λ pages. pages - n) old new → AreUsages (with_uncharge l g n) new
+    length new ≡ most_groups → UsagesPassed l.groups g None (λ pages. pages - n) old new → AreUsages (with_uncharge l g n) new
 stored_taken l old new g n facts there enough are size walked = record {
   size = size;
   sums = λ m.
@@ -109,7 +109,7 @@ stored_removed l usages g facts there empty are = record { size = are.size; sums
 -- ---- all that is kept
 -- what is kept for a ledger that is in order
 pub kept_as : (groups : List Group) (accounts : List Account) (usages : List ℕ) (settings : List ReclaimSettings) (l : Ledger) → ledger_of groups accounts settings ≡ l →
-    AreCharges l → length accounts ≡ 64 → AreUsages l usages → AreSoundCharges groups accounts usages settings
+    AreCharges l → length accounts ≡ most_groups → AreUsages l usages → AreSoundCharges groups accounts usages settings
 kept_as groups accounts usages settings l e facts size are = record {
   charges = subst AreCharges (sym e) facts;
   size = size;

@@ -1,2 +1,3 @@
 pub mod Breaches
 pub mod Protections
+pub mod Shares

@@ -1,8 +1,8 @@
 -- Laws of the tree's definitions. Serves the walks and crates above: look here first for a law to cite.
 use Rattle.std.proofs.Common.{◌≡◌, ◌≢◌, ℕ, zero, suc, ◌+◌, ◌<◌, ◌≤◌, Bool, true, false, ◌==◌, IsTrue, Option, Some, None, is_some, List}
 use Rattle.std.proofs.Common.{[], ◌∷◌, ◌++◌, length, map, drop, slice_get, IsSomeAnd, Contains, refl, sym, ap, ◌∙◌, subst, arith, inl, inr, ⊎_elim}
-use Rattle.std.proofs.Common.{◌⊎◌, length-append}
-use Rattle.std.specs.List.{find, starts_with}
+use Rattle.std.proofs.Common.{◌⊎◌, filter, not, length-append}
+use Rattle.std.specs.List.{find, list_any, starts_with}
 use Rattle.std.specs.Option.{option_map, option_map_or, option_and_then, option_or}
 use Rattle.std.specs.Str.{bytes_eq}
 use Rattle.std.proofs.lemmas.Bool.{eq-eqb, ne_eqb, both_ways, cases_Bool, cases_eq, cases_lt, true≢false, false≢true, false_from_ne_true}
@@ -11,12 +11,13 @@ use Rattle.std.proofs.lemmas.List.{append_assoc, append-nil, nil_from_length}
 use Rattle.std.proofs.lemmas.List.Elements.{All-contains}
 use Rattle.std.proofs.lemmas.List.Folds.{find-append}
 use Rattle.std.proofs.lemmas.Option.{none-some, same_Some}
+use Rattle.group_tree.specs.Bounds.{most_groups}
 use Rattle.group_tree.specs.Path.{root_path, is_root, names_of, depth_of, parent_path, IsWellFormed}
 use Rattle.group_tree.specs.Groups.{Group, group_at, number_at, has_group, path_of, limit_of, begins, in_subtree, parent_of, with_group}
 use Rattle.group_tree.specs.Groups.{new_row, without_group, with_limit, limited, with_oom_group, flagged, is_oom_group, AreGroups}
 use Rattle.group_tree.proofs.PathLemmas.{begins_names, begins_from_names, begins_from_well_formed, slashed, slashed-names, has_name, names-root}
 use Rattle.group_tree.proofs.PathLemmas.{root-from_test, names_parent, begins_parent, begins_root}
-use Rattle.group_tree.proofs.GroupLemmas.{CanMake, some_is, is_some-map, has_group-is, group_at-contains, group_at-there}
+use Rattle.group_tree.proofs.GroupLemmas.{CanMake, some_is, is_some-map, has_group-any, has_group-is, group_at-contains, group_at-there}
 use Rattle.group_tree.proofs.GroupLemmas.{number_at-contains, number_at-there, path_of-at, path_of-is, path_of-formed, in_subtree-paths}
 use Rattle.group_tree.proofs.GroupLemmas.{parent_of-below, parent_of-root, group_at-without, KeepsNames, group_at-changed, limited-keeps}
 use Rattle.group_tree.proofs.GroupLemmas.{flagged-keeps, flagged-limit, is_oom_group-with}
@@ -57,6 +58,13 @@ in_subtree-from groups g h s =
 
 pub path_of-there : (groups : List Group) (g : ℕ) → IsTrue (has_group groups g) → (path : List ℕ) × (path_of groups g ≡ Some path)
 path_of-there groups g h = let w = has_group-is groups g h in (w.0.path, path_of-at groups g w.0 w.1)
+
+-- the number of a group that is there is below the number of groups
+pub number_below : (groups : List Group) (g : ℕ) → AreGroups groups → IsTrue (has_group groups g) → g < most_groups
+number_below groups g facts there =
+    let w = has_group-is groups g there in
+    let c = group_at-contains groups g w.0 w.1 in
+    subst (λ k. k < most_groups) c.1 (All-contains (λ (x : Group). x.number < most_groups) groups w.0 facts.numbers c.0)
 
 pub has_group-path : (groups : List Group) (g : ℕ) (path : List ℕ) → path_of groups g ≡ Some path → IsTrue (has_group groups g)
 unfolding has_group
@@ -332,6 +340,19 @@ limit_of-flagged groups n k flag = limit_of-changed (flagged n flag) (flagged-ke
 -- removing a group leaves all others
 pub has_group-without : (groups : List Group) (n k : ℕ) → k ≢ n → has_group (without_group groups n) k ≡ has_group groups k
 has_group-without groups n k other = has_group-as (without_group groups n) groups k (group_at-without groups n k other)
+
+-- a removed group is gone
+any_without : (n : ℕ) (xs : List Group) → list_any (λ g. g.number == n) (filter (λ g. not (g.number == n)) xs) ≡ false
+any_without n [] = refl
+any_without n (x ∷ xs) =
+    elim (cases_Bool (x.number == n)) [
+      | inl e ↦ rw e (any_without n xs)
+      | inr e ↦ rw (e, e) (any_without n xs)
+    ]
+
+pub has_group-without_own : (groups : List Group) (n : ℕ) → has_group (without_group groups n) n ≡ false
+unfolding without_group
+has_group-without_own groups n = has_group-any (without_group groups n) n ∙ any_without n groups
 
 pub path_of-without : (groups : List Group) (n k : ℕ) → k ≢ n → path_of (without_group groups n) k ≡ path_of groups k
 path_of-without groups n k other = path_of-as (without_group groups n) groups k (group_at-without groups n k other)

@@ -21,6 +21,7 @@ use Rattle.std.proofs.lemmas.Option.{none-some, same_Some}
 use Rattle.std.proofs.lemmas.Slice.Eq.{bytes_eq-Decides}
 use Rattle.group_tree.specs.Path.{root_path, is_root, is_name, names_of, depth_of, parent_path, is_well_formed, IsWellFormed}
 use Rattle.group_tree.specs.Groups.{Group, the_root, group_at, number_at, has_group, path_of, begins, in_subtree, has_child, parent_of, make_fault}
+use Rattle.group_tree.specs.Bounds.{most_groups}
 use Rattle.group_tree.specs.Groups.{new_row, is_oom_group, with_group, without_group, with_limit, limited, with_oom_group, flagged, AreGroups}
 
 -- ---- finding
@@ -229,7 +230,7 @@ AreGroups-initial = record {
   few = lit≤ tt;
   root = (refl, refl);
   root_flag = root-flag;
-  numbers = All-one (λ (g : Group). g.number < 64) the_root (lit< tt);
+  numbers = All-one (λ (g : Group). g.number < most_groups) the_root (lit< tt);
   paths = All-one (λ (g : Group). IsWellFormed g.path) the_root root-formed;
   depths = All-one (λ (g : Group). depth_of g.path ≤ 8) the_root root-depth;
   numbers_distinct = λ i j d below lt. absurd (omega arith);
@@ -245,7 +246,7 @@ pub record CanMake (groups : List Group) (path : List ℕ) : Type 0 where
   pub shallow : depth_of path ≤ 8
   pub fresh : is_some (number_at groups path) ≡ false
   pub parent : is_some (number_at groups (parent_path path)) ≡ true
-  pub room : length groups < 64
+  pub room : length groups < most_groups
 
 cond_none : {X : Type 0} (b : Bool) (x : X) (o : Option X) → cond b (Some x) o ≡ None → (b ≡ false) × (o ≡ None)
 cond_none true x o e = absurd (none-some x (sym e))
@@ -268,7 +269,7 @@ can_make groups path e =
     let two = cond_none (nat_lt 8 (depth_of path)) _ _ one.1 in
     let three = cond_none (is_some (number_at groups path)) _ _ two.1 in
     let four = cond_none (is_none (number_at groups (parent_path path))) _ _ three.1 in
-    let five = cond_none (nat_le 64 (length groups)) _ _ four.1 in
+    let five = cond_none (nat_le most_groups (length groups)) _ _ four.1 in
     let names = or_parts (not (is_well_formed path)) (is_root path) one.0 in
     let formed : IsWellFormed path = not-false (is_well_formed path) names.0 in
     record {
@@ -278,7 +279,7 @@ can_make groups path e =
       shallow = ltb-false 8 (depth_of path) two.0;
       fresh = three.0;
       parent = not_none (number_at groups (parent_path path)) four.0;
-      room = leb-false 64 (length groups) five.0;
+      room = leb-false most_groups (length groups) five.0;
     }
 
 -- ---- one more group
@@ -315,7 +316,7 @@ is_oom_group-with groups n k path =
     ap (λ o. option_map_or (λ (g : Group). g.oom_group) o false) (find-append test groups (new ∷ []))
     ∙ flag_or (find test groups) (find test (new ∷ [])) off
 
-pub AreGroups-with : (groups : List Group) (n : ℕ) (path : List ℕ) → AreGroups groups → CanMake groups path → n < 64 → has_group groups n ≡ false →
+pub AreGroups-with : (groups : List Group) (n : ℕ) (path : List ℕ) → AreGroups groups → CanMake groups path → n < most_groups → has_group groups n ≡ false →
     AreGroups (with_group groups n path)
 AreGroups-with groups n path facts can below free =
     let g : Group = new_row n path in
@@ -324,7 +325,7 @@ AreGroups-with groups n path facts can below free =
       few = omega (arith, can.room);
       root = root-with groups g facts.root;
       root_flag = is_oom_group-with groups n 0 path ∙ facts.root_flag;
-      numbers = All-push (λ x. x.number < 64) groups g facts.numbers below;
+      numbers = All-push (λ x. x.number < most_groups) groups g facts.numbers below;
       paths = All-push (λ x. IsWellFormed x.path) groups g facts.paths can.formed;
       depths = All-push (λ x. depth_of x.path ≤ 8) groups g facts.depths can.shallow;
       numbers_distinct = all_pairs_push (λ x y. x.number ≢ y.number) groups g facts.numbers_distinct
@@ -398,7 +399,7 @@ AreGroups-without groups n facts leaf below =
       few = omega (arith, facts.few, length-filter test groups, count_by-le-length test groups);
       root = root-without groups n below facts.root;
       root_flag = is_oom_group-without groups n 0 (λ e. below (sym e)) ∙ facts.root_flag;
-      numbers = All-filter test (λ x. x.number < 64) groups facts.numbers;
+      numbers = All-filter test (λ x. x.number < most_groups) groups facts.numbers;
       paths = All-filter test (λ x. IsWellFormed x.path) groups facts.paths;
       depths = All-filter test (λ x. depth_of x.path ≤ 8) groups facts.depths;
       numbers_distinct = AllPairs-filter (λ x y. x.number ≢ y.number) test groups facts.numbers_distinct;
@@ -472,8 +473,8 @@ module _ (f : Group → Group) (keeps : KeepsNames f) where
     few = omega (arith, facts.few, length-map groups f);
     root = root-changed groups facts.root;
     root_flag = off;
-    numbers = All-map (λ (x : Group). x.number < 64) f groups
-        (λ k d lt. subst (λ m. m < 64) (sym (keeps.number (get_or groups k d))) (facts.numbers k d lt));
+    numbers = All-map (λ (x : Group). x.number < most_groups) f groups
+        (λ k d lt. subst (λ m. m < most_groups) (sym (keeps.number (get_or groups k d))) (facts.numbers k d lt));
     paths = All-map (λ (x : Group). IsWellFormed x.path) f groups
         (λ k d lt. subst IsWellFormed (sym (keeps.path (get_or groups k d))) (facts.paths k d lt));
     depths = All-map (λ (x : Group). depth_of x.path ≤ 8) f groups

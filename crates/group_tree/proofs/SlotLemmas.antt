@@ -1,8 +1,7 @@
 -- What a tree keeps by number beside its rows, and how a change keeps it. Serves the contracts of `Tree::new`, `make`,
 -- `set_max`, `set_oom_group`, `remove`, `parent` and `depth`.
 use Rattle.std.proofs.Common.{◌≡◌, ◌≢◌, ℕ, ◌+◌, ◌<◌, false, not, cond, ◌==◌, IsTrue, Option, Some, None, List, [], ◌∷◌, length, map, filter, get_or}
-use Rattle.std.proofs.Common.{set, replicate, Contains, is_some, refl, sym, ap, ◌∙◌, subst, arith, ⊎_elim, length-append, Bool, true, ◌||◌}
-use Rattle.std.specs.List.{list_any}
+use Rattle.std.proofs.Common.{set, replicate, Contains, is_some, refl, sym, ap, ◌∙◌, subst, arith, ⊎_elim, length-append, Bool, true}
 use Rattle.std.specs.Option.{option_and_then, option_map_or}
 use Rattle.std.proofs.lemmas.Bool.{cases_lt, both_ways, cases_Bool, cases_eq, cond-false, cond-true, eq-eqb, ne_eqb}
 use Rattle.std.proofs.lemmas.List.{get_or_default, get_or_past, get_or-set_other, get_or-set_same, get_or-replicate, length-set, length-replicate}
@@ -10,16 +9,17 @@ use Rattle.std.proofs.lemmas.List.Elements.{All-contains, All-filter, All-map, C
 use Rattle.std.proofs.lemmas.Option.{same_Some}
 use Rattle.group_tree.specs.declared.group.Group.{Group}
 use Rattle.group_tree.specs.declared.tree.Slot.{Slot}
+use Rattle.group_tree.specs.Bounds.{most_groups}
 use Rattle.group_tree.specs.Path.{depth_of, names_of, parent_path}
 use Rattle.group_tree.specs.Groups.{the_root, initial_groups, group_at, has_group, limit_of, number_at, parent_of, path_of, with_group, with_limit}
 use Rattle.group_tree.specs.Groups.{new_row, without_group, limited, with_oom_group, flagged, AreGroups}
 use Rattle.group_tree.specs.Slots.{AreSlots, slot_at, free_slot}
 use Rattle.group_tree.specs.Ancestors.{depth_at}
 use Rattle.group_tree.proofs.PathLemmas.{names_parent}
-use Rattle.group_tree.proofs.GroupLemmas.{has_group-any, CanMake, All-one, some_is, has_group-contains, has_group-is, group_at-contains, number_at-contains}
+use Rattle.group_tree.proofs.GroupLemmas.{CanMake, All-one, some_is, has_group-contains, has_group-is, group_at-contains, number_at-contains}
 use Rattle.group_tree.proofs.GroupLemmas.{number_at-there, path_of-at, parent_of-below, parent-there, limited-number, limited-path}
 use Rattle.group_tree.proofs.GroupLemmas.{flagged-number, flagged-path, flagged-limit}
-use Rattle.group_tree.proofs.CallerLemmas.{has_group-with, has_group-with_new, has_group-limited, has_group-flagged, has_group-without}
+use Rattle.group_tree.proofs.CallerLemmas.{has_group-with, has_group-with_new, has_group-limited, has_group-flagged, has_group-without, has_group-without_own}
 
 -- ---- a new tree
 one_number : (x : Group) → Contains initial_groups x → x.number ≡ 0
@@ -38,35 +38,35 @@ unfolding has_group group_at
 alone n other = ap is_some (cond-false (0 == n) (Some the_root) None (ne_eqb 0 n (λ e. other (sym e))))
 
 -- the slots of numbers that no group has
-none_there : (n : ℕ) → slot_at (replicate 64 free_slot) n ≡ free_slot
+none_there : (n : ℕ) → slot_at (replicate most_groups free_slot) n ≡ free_slot
 none_there n = ⊎_elim
-    (λ lt. get_or-replicate 64 n free_slot free_slot lt)
-    (λ le. get_or_past (replicate 64 free_slot) n free_slot (omega (arith, le, length-replicate 64 free_slot)))
-    (cases_lt n 64)
+    (λ lt. get_or-replicate most_groups n free_slot free_slot lt)
+    (λ le. get_or_past (replicate most_groups free_slot) n free_slot (omega (arith, le, length-replicate most_groups free_slot)))
+    (cases_lt n most_groups)
 
 -- only the root's number is a group's
 abbrev pub first_slots : List Slot
-first_slots = set (replicate 64 free_slot) 0 (record free_slot { is_there = true })
+first_slots = set (replicate most_groups free_slot) 0 (record free_slot { is_there = true })
 
 first_at : (n : ℕ) → (slot_at first_slots n).is_there ≡ has_group initial_groups n
 unfolding has_group group_at
 first_at n = ⊎_elim
     (λ zero.
-    let within : 0 < length (replicate 64 free_slot) = omega (arith, length-replicate 64 free_slot) in
+    let within : 0 < length (replicate most_groups free_slot) = omega (arith, length-replicate most_groups free_slot) in
     ap (λ k. (slot_at first_slots k).is_there) zero
-    ∙ ap (λ (l : Slot). l.is_there) (get_or-set_same (replicate 64 free_slot) 0 (record free_slot { is_there = true }) free_slot within)
+    ∙ ap (λ (l : Slot). l.is_there) (get_or-set_same (replicate most_groups free_slot) 0 (record free_slot { is_there = true }) free_slot within)
     ∙ sym (ap (has_group initial_groups) zero))
-    (λ other. ap (λ (l : Slot). l.is_there) (get_or-set_other (replicate 64 free_slot) 0 n (record free_slot { is_there = true }) free_slot other ∙ none_there n)
+    (λ other. ap (λ (l : Slot). l.is_there) (get_or-set_other (replicate most_groups free_slot) 0 n (record free_slot { is_there = true }) free_slot other ∙ none_there n)
     ∙ sym (alone n other))
     (cases_eq n 0)
 
 pub AreSlots-initial : (slots : List Slot) → slots ≡ first_slots → AreSlots initial_groups slots
 AreSlots-initial slots e =
-    let within : 0 < length (replicate 64 free_slot) = omega (arith, length-replicate 64 free_slot) in
+    let within : 0 < length (replicate most_groups free_slot) = omega (arith, length-replicate most_groups free_slot) in
     let first : slot_at slots 0 ≡ record free_slot { is_there = true } = ap (λ ls. slot_at ls 0) e
-    ∙ get_or-set_same (replicate 64 free_slot) 0 (record free_slot { is_there = true }) free_slot within in
+    ∙ get_or-set_same (replicate most_groups free_slot) 0 (record free_slot { is_there = true }) free_slot within in
     record {
-      size = ap length e ∙ length-set (replicate 64 free_slot) 0 (record free_slot { is_there = true }) ∙ length-replicate 64 free_slot;
+      size = ap length e ∙ length-set (replicate most_groups free_slot) 0 (record free_slot { is_there = true }) ∙ length-replicate most_groups free_slot;
       there = λ n. ap (λ ls. (slot_at ls n).is_there) e ∙ first_at n;
       parents = λ x y hx hy same. ap (λ n. (slot_at slots n).parent) (one_number x hx) ∙ ap (λ (l : Slot). l.parent) first ∙ sym (one_number y hy);
       depths = λ x hx. ap (λ n. (slot_at slots n).depth) (one_number x hx) ∙ ap (λ (l : Slot). l.depth) first ∙ sym (one_depth x hx);
@@ -93,7 +93,7 @@ no_new_parent groups path x facts can here e =
     ∙ All-contains (λ (y : Group). IsTrue (is_some (number_at groups (parent_path y.path)))) groups x facts.parents here)
 
 pub AreSlots-with : (groups : List Group) (slots : List Slot) (n p : ℕ) (path : List ℕ) → AreGroups groups → AreSlots groups slots →
-    CanMake groups path → n < 64 → has_group groups n ≡ false → number_at groups (parent_path path) ≡ Some p →
+    CanMake groups path → n < most_groups → has_group groups n ≡ false → number_at groups (parent_path path) ≡ Some p →
     AreSlots (with_group groups n path) (set slots n (record { is_there = true; parent = p; depth = depth_of path; limit = None }))
 AreSlots-with groups slots n p path facts are can below free up =
     let row : Group = new_row n path in
@@ -200,7 +200,7 @@ module _ (slots : List Slot) (n : ℕ) (limit : Option ℕ) (within : n < length
       (λ other. ap (λ (l : Slot). l.is_there) (limit_set-other k other))
       (cases_eq k n)
 
-pub AreSlots-limited : (groups : List Group) (slots : List Slot) (n : ℕ) (limit : Option ℕ) → n < 64 → AreSlots groups slots →
+pub AreSlots-limited : (groups : List Group) (slots : List Slot) (n : ℕ) (limit : Option ℕ) → n < most_groups → AreSlots groups slots →
     AreSlots (with_limit groups n limit) (limit_set slots n limit)
 AreSlots-limited groups slots n limit below are =
     let within : n < length slots = omega (arith, are.size) in
@@ -280,26 +280,12 @@ still_row groups n x h =
     (All-filter (λ (g : Group). not (g.number == n)) (λ (z : Group). Contains groups z) groups (λ k d lt. Contains-get_or groups k d lt))
     h
 
--- none is left of those that are filtered out
-none_left : {X : Type 0} (p : X → Bool) (xs : List X) → list_any p (filter (λ x. not (p x)) xs) ≡ false
-none_left p [] = refl
-none_left p (x ∷ xs) =
-    let rest = filter (λ y. not (p y)) xs in
-    ⊎_elim
-    (λ t. subst (λ b. list_any p (cond (not b) (x ∷ rest) rest) ≡ false) (sym t) (none_left p xs))
-    (λ f. subst (λ b. list_any p (cond (not b) (x ∷ rest) rest) ≡ false) (sym f) (ap (λ b. b || list_any p rest) f ∙ none_left p xs))
-    (cases_Bool (p x))
-
-gone : (groups : List Group) (n : ℕ) → has_group (without_group groups n) n ≡ false
-unfolding without_group
-gone groups n = has_group-any (filter (λ (g : Group). not (g.number == n)) groups) n ∙ none_left (λ (g : Group). g.number == n) groups
-
 -- a group that remains has another number
 still_other : (groups : List Group) (n : ℕ) (x : Group) → Contains (without_group groups n) x → x.number ≢ n
-still_other groups n x h = λ same. both_ways (has_group (without_group groups n) n) (gone groups n)
+still_other groups n x h = λ same. both_ways (has_group (without_group groups n) n) (has_group-without_own groups n)
     (subst (λ m. IsTrue (has_group (without_group groups n) m)) same (has_group-contains (without_group groups n) x h))
 
-pub AreSlots-without : (groups : List Group) (slots : List Slot) (n : ℕ) → n < 64 → AreSlots groups slots →
+pub AreSlots-without : (groups : List Group) (slots : List Slot) (n : ℕ) → n < most_groups → AreSlots groups slots →
     AreSlots (without_group groups n) (set slots n free_slot)
 AreSlots-without groups slots n below are =
     let new : List Slot = set slots n free_slot in
@@ -310,7 +296,7 @@ AreSlots-without groups slots n below are =
       size = length-set slots n free_slot ∙ are.size;
       there = λ k. ⊎_elim
           (λ same. ap (λ j. (slot_at new j).is_there) same ∙ ap (λ (l : Slot). l.is_there) (get_or-set_same slots n free_slot free_slot within)
-          ∙ sym (ap (has_group (without_group groups n)) same ∙ gone groups n))
+          ∙ sym (ap (has_group (without_group groups n)) same ∙ has_group-without_own groups n))
           (λ other. ap (λ (l : Slot). l.is_there) (get_or-set_other slots n k free_slot free_slot other) ∙ are.there k ∙ sym (has_group-without groups n k other))
           (cases_eq k n);
       parents = λ x y hx hy e. ap (λ (l : Slot). l.parent) (stays x hx) ∙ are.parents x y (still_row groups n x hx) (still_row groups n y hy) e;
@@ -349,7 +335,7 @@ limit-slot groups slots g are there =
     ap (λ k. (slot_at slots k).limit) (sym c.1) ∙ are.limits x c.0 ∙ sym (ap (option_and_then (λ (y : Group). y.limit)) w.1)
 
 -- a slot is read at the group's number
-pub slot_read : (slots : List Slot) (i g : ℕ) (d : Slot) → length slots ≡ 64 → i < 64 → i ≡ g → get_or slots i d ≡ slot_at slots g
+pub slot_read : (slots : List Slot) (i g : ℕ) (d : Slot) → length slots ≡ most_groups → i < most_groups → i ≡ g → get_or slots i d ≡ slot_at slots g
 slot_read slots i g d size below e =
     let within : i < length slots = omega (arith, size) in
     get_or_default slots i d free_slot within ∙ ap (slot_at slots) e

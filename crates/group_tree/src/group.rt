@@ -9,7 +9,7 @@ use std::marker::Model;
 /// The most groups that exist at once, the root included.
 pub const MAX_GROUPS: usize = 64;
 
-/// The number of a group, from 0 to 63; the root has 0. It takes one byte because the record of each frame holds one.
+/// The number of a group, below [`MAX_GROUPS`]; the root has 0. It takes one byte because the record of each frame holds one.
 #[derive(Clone, Copy, Debug, PartialEq, Eq, PartialOrd, Ord, Hash)]
 pub struct GroupId {
     number: u8,
@@ -30,7 +30,7 @@ impl Model for GroupId {
 }
 
 impl GroupId {
-    /// The group of this number, or None if the number is 64 or above.
+    /// The group of this number, or None if the number is [`MAX_GROUPS`] or above.
     pub fn of(number: u32) -> Option<GroupId>
         ensures { SomeIff result (number < most_groups) number }
     {
@@ -50,7 +50,7 @@ impl GroupId {
         GroupId { number: 0 }
     }
 
-    /// The group's number, from 0 to 63.
+    /// The group's number, below [`MAX_GROUPS`].
     pub fn number(self) -> u32
         ensures value { result ≡ self }
         ensures below { result < most_groups }

@@ -21,7 +21,7 @@ use std::alloc::{AllocError, Global};
 use std::marker::Model;
 
 /// The groups of a controller. A contract sees them as a list, in the order in which they were made. `new` reserves
-/// room for 64 groups, so that no later call allocates.
+/// room for [`MAX_GROUPS`] groups, so that no later call allocates.
 #[derive(Debug, Drop)]
 pub struct Tree {
     rows: Vec<Group>,
@@ -214,7 +214,7 @@ impl Tree {
         }
     }
 
-    // Takes a number, because a `GroupId` is below 64.
+    // Takes a number, because a `GroupId` is below `MAX_GROUPS`.
     fn is_taken(&self, number: u32) -> bool
         ensures { result ≡ has_group self.now number }
     {

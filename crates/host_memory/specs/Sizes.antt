@@ -8,14 +8,14 @@ use Rattle.host_memory.specs.declared.sizes.Sizes.{Sizes}
 -- the choices among the sizes that a host passes; 0 is that of a boot that makes none
 abbrev pub choices_of : Sizes → Choices
 choices_of sizes = record {
-  is_fair = not (sizes.fair == 0);
+  is_proportional = not (sizes.proportional == 0);
   is_no_kill = not (sizes.no_kill == 0);
   reclaim_batch = max sizes.reclaim_batch 1;
 }
 
 -- each flag is 0 or 1
 abbrev pub has_flags : Sizes → Bool
-has_flags sizes = not (nat_lt 1 sizes.no_kill || nat_lt 1 sizes.fair)
+has_flags sizes = not (nat_lt 1 sizes.no_kill || nat_lt 1 sizes.proportional)
 
 -- the sizes that a host passes, as those of a boot
 abbrev pub config_of : Sizes → Config

@@ -25,8 +25,8 @@ pub struct Sizes {
     pub reclaim_batch: u32,
     /// 0, or 1: no group is killed, and a charge without room is refused.
     pub no_kill: u32,
-    /// 0, or 1: turns of reclaim go round, and each pass begins after the group that had the last turn.
-    pub fair: u32,
+    /// 0, or 1: a reclaim begins with a pass of shares: each group gives pages in proportion to its clean pages.
+    pub proportional: u32,
 }
 
 impl Sizes {
@@ -40,7 +40,7 @@ impl Sizes {
         ensures { result ≡ (if has_flags self.now then Some (config_of self.now) else None) }
     {
         prove!(version == HEADER_VERSION);
-        if self.no_kill > 1 || self.fair > 1 {
+        if self.no_kill > 1 || self.proportional > 1 {
             return None;
         }
         Some(Config {
@@ -58,7 +58,7 @@ impl Sizes {
         ensures { result ≡ choices_of self.now }
     {
         Choices {
-            is_fair: self.fair != 0,
+            is_proportional: self.proportional != 0,
             is_no_kill: self.no_kill != 0,
             reclaim_batch: self.reclaim_batch.max(1),
         }

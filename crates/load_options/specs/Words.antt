@@ -57,7 +57,7 @@ size_rules =
 
 -- the options of the sizes and choices
 abbrev pub zone_rules : List Rule
-zone_rules = size_rules ++ flag_rule (codes "no-kill") ∷ flag_rule (codes "fair") ∷ []
+zone_rules = size_rules ++ flag_rule (codes "no-kill") ∷ flag_rule (codes "proportional") ∷ []
 
 -- the options that both subcommands that answer scripts have
 abbrev pub task_rules : List Rule
@@ -139,7 +139,7 @@ abbrev pub choices_in : List Row → Option Choices
 choices_in found = do
   reclaim_batch ← size_in (codes "reclaim-batch") most_reclaim_batch found
   Some (record {
-    is_fair = is_given (codes "fair") found;
+    is_proportional = is_given (codes "proportional") found;
     is_no_kill = is_given (codes "no-kill") found;
     reclaim_batch = reclaim_batch;
   })

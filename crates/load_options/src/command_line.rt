@@ -59,7 +59,8 @@ const RECLAIM_BATCH_HELP: &str =
 
 const NO_KILL_HELP: &str = "Kills nobody: a charge without room is refused";
 
-const FAIR_HELP: &str = "Begins each pass of reclaim after the group of the last turn";
+const PROPORTIONAL_HELP: &str =
+    "Reclaims from each group in proportion to its clean pages, before all else";
 
 const AUDIT_HELP: &str = "Reports at the end which pins were held, and the counts";
 
@@ -92,7 +93,10 @@ const SIZES: [(&str, &str, u32, &str); 6] = [
 ];
 
 // The options of the choices that have no value, with their help.
-const CHOICE_FLAGS: [(&str, &str); 2] = [("no-kill", NO_KILL_HELP), ("fair", FAIR_HELP)];
+const CHOICE_FLAGS: [(&str, &str); 2] = [
+    ("no-kill", NO_KILL_HELP),
+    ("proportional", PROPORTIONAL_HELP),
+];
 
 // The options without a value that both subcommands that answer scripts have, with their help.
 const TASK_FLAGS: [(&str, &str); 3] = [
@@ -137,8 +141,8 @@ pub fn words<R: Env + AllocGlobal>(rt: &R) -> Result<Vec<String>, WordsFault> {
 }
 
 /// Parses the words after the program's name. They are `replay`, `run`, `lint` or `serve`, then any of `--frames`,
-/// `--cpus`, `--batch`, `--high`, `--stock`, `--reclaim-batch`, `--no-kill` and `--fair`. After `replay` and `run`
-/// there may also be `--audit`, `--numbered` and `--strict`, and after `replay` `--explain` and `--check`. After
+/// `--cpus`, `--batch`, `--high`, `--stock`, `--reclaim-batch`, `--no-kill` and `--proportional`. After `replay` and
+/// `run` there may also be `--audit`, `--numbered` and `--strict`, and after `replay` `--explain` and `--check`. After
 /// `replay` there may be `--steps` instead of these five. After `serve` there may be `--audit` and `--explain`, or
 /// `--steps` instead. Each is given at most once. Or the words are `check`, alone or with `--all`, or `--version` or
 /// `-V` alone. Anything else is a fault of the words, even a request for help.

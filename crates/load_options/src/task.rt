@@ -214,7 +214,7 @@ fn choices(given: &ArgMatches<'_>) -> Option<Choices>
     ensures in_range { IfSome result AreValidChoices }
 {
     Some(Choices {
-        is_fair: is_set(given, "fair"),
+        is_proportional: is_set(given, "proportional"),
         is_no_kill: is_set(given, "no-kill"),
         reclaim_batch: size(given, "reclaim-batch", Choices::MAX_RECLAIM_BATCH)?,
     })

@@ -80,7 +80,7 @@ watched_first t m watch first = record {
   killed = first.killed;
   counts = first.counts;
   notes = first.notes;
-  last_turn = first.last_turn;
+  is_proportional = first.is_proportional;
   past = first.past;
 }
 

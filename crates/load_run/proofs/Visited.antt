@@ -257,7 +257,7 @@ found_behind : (t : KnownTable) (found : KnownLocked) → IsSound t found → Is
 found_behind t found sound = record { free = sound.quiet.rests.free; shown = sound.consistent.shown }
 
 pub runs_show_visits : RunsShowVisits
-runs_show_visits table cmd reply before after run sound served left begins =
+runs_show_visits table cmd outcome before after run sound served left begins =
     let zone = zone_of_boot table in
     let cpu = before.cpu.part.number in
     let visit = served.run in

@@ -28,7 +28,7 @@ choice_text is_made name = if is_made then name else []
 abbrev pub with_choices : List ℕ → Choices → List ℕ
 with_choices text choices =
     ((text ++ batch_text choices.reclaim_batch) ++ choice_text choices.is_no_kill (codes " no-kill"))
-    ++ choice_text choices.is_fair (codes " fair")
+    ++ choice_text choices.is_proportional (codes " proportional")
 
 -- the comment that a log of ours is known by: the sizes of the boot that the zone's line doesn't have, and its choices
 abbrev pub sizes_comment : Config → List ℕ

@@ -5,7 +5,7 @@ use Rattle.step_rules.specs.State.{State}
 use Rattle.boot_words.specs.{hide, KnownPasts, own_past, zone_of_boot, KnownTable}
 use Rattle.mem_machine.specs.{KnownMachine, IsShownBy}
 use Rattle.mem_system.specs.declared.command.LockedCommand.{LockedCommand}
-use Rattle.mem_system.specs.declared.command.ReplyWithText.{ReplyWithText}
+use Rattle.mem_system.specs.declared.outcome.Outcome.{Outcome}
 use Rattle.mem_system.specs.{CpuInRun, between_locks, IsSound, KnownLocked, IsServed, LockedState}
 use Rattle.script_replay.specs.Visits.{GrewByChanges}
 
@@ -33,9 +33,9 @@ pub record ShowsVisit (table : KnownTable) (run : Run) (cpu : ℕ) (steps : Run)
 
 -- If a command was served in a visit, and the CPU's past after it is a beginning of a run, then this run shows the visit.
 abbrev pub RunsShowVisits : Type 0
-RunsShowVisits = (table : KnownTable) (cmd : LockedCommand) (reply : ReplyWithText)
+RunsShowVisits = (table : KnownTable) (cmd : LockedCommand) (outcome : Outcome)
     (before after : LockedState) (run : Run) → IsSound table before.locked
-    → (served : IsServed table cmd reply before after) → IsSound table after.locked
+    → (served : IsServed table cmd outcome before after) → IsSound table after.locked
     → IsBeginning (own_past after.cpu.past).seen run
     → ShowsVisit table run before.cpu.part.number served.steps before.locked.machine after.locked.machine
 

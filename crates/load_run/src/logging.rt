@@ -60,7 +60,7 @@ fn write_choices(choices: &Choices, text: &mut String) -> Result<(), AllocError>
 {
     write_batch(choices.reclaim_batch, text)?;
     write_flag(choices.is_no_kill, " no-kill", text)?;
-    write_flag(choices.is_fair, " fair", text)
+    write_flag(choices.is_proportional, " proportional", text)
 }
 
 // The text of the line of this number, from 1; nothing if there is none.

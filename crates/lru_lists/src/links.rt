@@ -56,6 +56,14 @@ impl Links {
         self.records[frame as usize].home()
     }
 
+    /// Whether the unit that the frame heads is dirty; false for a frame on no list that never was dirty on one.
+    pub fn is_dirty(&self, frame: u32) -> bool
+        requires { frame < length self.now }
+        ensures { result ≡ (link_at self.now frame).is_dirty }
+    {
+        self.records[frame as usize].is_dirty
+    }
+
     // Appends a unit that is on no list at the newest end of this one, unmarked.
     pub(crate) fn push_newest(&mut self, queue: &mut Queue, home: Home, unit: u32)
         requires unit { unit < length self.old }

@@ -143,6 +143,8 @@ impl Lru {
         ensures active { active_of links.new self.new ≡ active_of links.old self.old }
         ensures others { ChangesOwn links.old links.new self.old.owner }
         ensures moves { MovesOnly links.old links.new self.old.owner unit }
+        ensures used { SameUse links.old links.new unit }
+        ensures dirt { (link_at links.new unit).is_dirty ≡ false }
         ensures joined { (link_at links.new unit).home ≡ Some (home_in self.old Inactive) }
     {
         links.clear(unit);
@@ -257,6 +259,9 @@ impl Lru {
             → entries_of links.new self.now list
             ≡ changed_at unit (dirtied is_dirty) (entries_of links.old self.now list) }
         ensures others { ChangesOwn links.old links.new self.now.owner }
+        ensures used { SameUse links.old links.new unit }
+        ensures dirt { (link_at links.new unit).is_dirty ≡ is_dirty }
+        ensures home { (link_at links.new unit).home ≡ (link_at links.old unit).home }
     {
         links.set_dirty(unit, is_dirty);
     }

@@ -121,7 +121,7 @@ module _ (t : KnownTable) (m : KnownMachine) (c : KnownCpuLists) (ok : IsConsist
           let are_seen : AreBooked t.cpus (hide (local_of t m)).parts sums = subst (λ (u : State). AreBooked t.cpus u.parts sums) seen are in
           let phases = without_unit (with_at (local_of t m).phases f (phase.Head unit AwaitsReturn)) f in record {
             consistent = record {
-              turns = ok.turns;
+              choice = ok.choice;
               sizes = record { frame_states = frees.frames ∙ ok.sizes.frame_states; links = ok.sizes.links; lists = ok.sizes.lists; killed = ok.sizes.killed };
               areas = areas;
               frame_states = homes_fit t m ok f unit heads new frees m.links (λ x ne. refl) no_list;

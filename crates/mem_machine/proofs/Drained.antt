@@ -1,5 +1,5 @@
 -- What a drain of a stock leaves of the machine. Serves `drain_stock`.
-use Rattle.std.proofs.Common.{◌≡◌, ℕ, ◌+◌, ◌-◌, ◌<◌, ◌≤◌, ◌==◌, true, Option, Some, None, List, [], ◌∷◌, cond, get_or, refl, sym, ap, ◌∙◌, subst, inl, inr, arith}
+use Rattle.std.proofs.Common.{◌≡◌, ℕ, ◌+◌, ◌-◌, ◌<◌, ◌≤◌, true, Option, Some, None, List, [], ◌∷◌, get_or, refl, sym, ap, ◌∙◌, subst, inl, inr, arith}
 use Rattle.std.specs.List.{fold}
 use Rattle.std.specs.Prelude.{slice_set}
 use Rattle.group_tree.specs.Groups.{has_group}
@@ -9,7 +9,7 @@ use Rattle.group_charge.proofs.CallerLemmas.{uncharge_pages}
 use Rattle.stock_word.specs.Stock.{group_base}
 use Rattle.step_rules.specs.declared.step.Action.TheVariants.{DrainStock, Ungrant}
 use Rattle.step_rules.specs.declared.step.Answer.TheVariants.{Done, Pages}
-use Rattle.step_rules.specs.{told_pages, Part, with_at, Run, drained, IsLocalRun, zone_makes}
+use Rattle.step_rules.specs.{told_pages, Run, drained, IsLocalRun, zone_makes}
 use Rattle.step_rules.specs.State.{State}
 use Rattle.step_rules.proofs.Basics.{at_each}
 use Rattle.boot_words.specs.{hide, KnownPasts, IsHeld, MakesStep, MayMake, cpu_past, HasSameLists, KnownTable}
@@ -154,7 +154,7 @@ module _ (t : KnownTable) (m : KnownMachine) (ok : IsConsistent t m) (q n : ℕ)
 
     pub drained_consistent : (l : Ledger) → l ≡ uncharged m.ledger o n → IsConsistent t (record m { ledger = l; run = run })
     drained_consistent l off = subst (λ (x : Ledger). IsConsistent t (record m { ledger = x; run = run })) (sym off) (record {
-      turns = ok.turns;
+      choice = ok.choice;
       sizes = record { frame_states = ok.sizes.frame_states; links = ok.sizes.links; lists = ok.sizes.lists; killed = ok.sizes.killed };
       areas = ok.areas;
       frame_states = ok.frame_states;
@@ -229,6 +229,7 @@ module _ {N : Type 0} (t : KnownTable) (fields : Inside N) (ok : IsSoundMachine 
   drained_sound g group i is fits run noted charges off = record {
     consistent = drained_consistent t m ok.consistent q n k (Some g) group run noted charges off;
     free = ok.free;
+    clean = ok.clean;
     sums = sums_then t m ok.consistent q n k (Some g) group run noted fields.sums ok.sums i (ap Some (sym is)) fits;
     owners = owners_then t m ok.consistent q n k (Some g) group run noted fields.owners ok.owners;
   }
@@ -239,6 +240,7 @@ module _ {N : Type 0} (t : KnownTable) (fields : Inside N) (ok : IsSoundMachine 
       let o = stock_group t m q in record {
         consistent = drained_consistent t m ok.consistent q n k o refl run noted fields.charges (drained_none fields.charges o n none);
         free = ok.free;
+        clean = ok.clean;
         sums = sums_stay t m ok.consistent q n k o refl run noted none fields.sums ok.sums;
         owners = owners_then t m ok.consistent q n k o refl run noted fields.owners ok.owners;
       }
@@ -260,7 +262,7 @@ makes_noted t m n steps notes makes = record { holder = makes.holder; leads = ma
 pub noted_sound : {N : Type 0} (t : KnownTable) (fields : Inside N) (notes : KnownNotes) → IsSoundMachine t fields → IsSoundMachine {N = N} t (record fields { notes = notes })
 noted_sound {N} t fields notes ok = let was = ok.consistent in record {
   consistent = record {
-    turns = was.turns;
+    choice = was.choice;
     sizes = record { frame_states = was.sizes.frame_states; links = was.sizes.links; lists = was.sizes.lists; killed = was.sizes.killed };
     areas = was.areas;
     frame_states = was.frame_states;
@@ -279,6 +281,7 @@ noted_sound {N} t fields notes ok = let was = ok.consistent in record {
     };
   };
   free = ok.free;
+  clean = ok.clean;
   sums = ok.sums;
   owners = ok.owners;
 }

@@ -54,7 +54,7 @@ module _ (t : KnownTable) (m : KnownMachine) (ok : IsConsistent t m) (held : IsH
       let shown = ok.shown in
       record {
         consistent = record {
-          turns = ok.turns;
+          choice = ok.choice;
           sizes = record { frame_states = ok.sizes.frame_states; links = ok.sizes.links; lists = ok.sizes.lists; killed = ok.sizes.killed };
           areas = ok.areas;
           frame_states = ok.frame_states;

@@ -1,6 +1,6 @@
 -- The first machine is consistent. Serves `new`.
 use Rattle.std.proofs.Common.{◌≡◌, ℕ, ◌+◌, ◌<◌, ◌≤◌, Bool, true, false, Option, None, List, [], ◌∷◌, length, replicate, get_or, refl, sym, ap, ◌∙◌}
-use Rattle.std.proofs.Common.{subst, inl, inr, arith, cond, zero, suc, ◌==◌, ◌++◌}
+use Rattle.std.proofs.Common.{subst, inl, inr, arith, zero, suc, ◌==◌, ◌++◌}
 use Rattle.std.proofs.lemmas.Bool.{cases_lt, cases_eq, ne_eqb}
 use Rattle.std.proofs.lemmas.List.{get_or-replicate, length-replicate, length_push, get_or_append_left, get_or_push}
 use Rattle.zone_blocks.specs.Areas.{AreMaximalBlocks}
@@ -15,17 +15,12 @@ use Rattle.step_rules.specs.declared.phase.ChargedUnit.{ChargedUnit}
 use Rattle.step_rules.proofs.Sums.{sum_none}
 use Rattle.mem_machine.specs.declared.frame_state.FrameState.{FrameState}
 use Rattle.mem_machine.specs.declared.frame_state.FrameState.TheVariants.{Free, Head, Tail}
-use Rattle.mem_machine.specs.Machines.{initial_last_turn}
 use Rattle.mem_machine.specs.{frame_state_at, free_of, frame_state_group, one_if_is, phase_hidden, AreUnits, AreEmpty, no_counts, KnownMachine}
 use Rattle.mem_machine.specs.{FitsFrameState, IsConsistent, IsFirst, IsShownBy, BalancesCounts, home_of, frames_charged, left_by, pages_booked}
 use Rattle.mem_machine.specs.{booked, AreBooked, AreOwners, Rests}
 use Rattle.step_rules.specs.State.{State, Zone, at_boot, is_unheld, one_if}
 use Rattle.step_rules.specs.After.{state_of}
 use Rattle.boot_words.specs.{hide, IsZonePast, KnownPasts, own_past, seat_at_first, zone_of_boot, KnownTable}
-
-turns_first : (is_fair : Bool) → is_some (initial_last_turn is_fair) ≡ is_fair
-turns_first false = refl
-turns_first true = refl
 
 pub empty_none : (lists : List Lru) → lists ≡ [] → AreEmpty lists 0
 empty_none lists none = record {
@@ -131,7 +126,7 @@ module _ (t : KnownTable) (m : KnownMachine) (first : IsFirst t m) where
 
   consistent_first : AreMaximalBlocks (free_of m.frame_states) m.blocks → length m.links ≡ t.frames → length m.lists ≡ 64 → AllLinked m.links m.lists → IsConsistent t m
   consistent_first areas links lists stand = record {
-    turns = ap (λ (last : Option ℕ). is_some last) first.last_turn ∙ turns_first t.choices.is_fair;
+    choice = first.is_proportional;
     sizes = record {
       frame_states = ap length first.frame_states ∙ length-replicate t.frames Free;
       links = links;
@@ -183,14 +178,14 @@ module _ (t : KnownTable) (m : KnownMachine) (first : IsFirst t m) where
 
 pub first_is : (t : KnownTable) (m : KnownMachine) (frames : ℕ) → frames ≡ t.frames → m.frame_states ≡ replicate frames Free
     → m.ledger ≡ initial_ledger → AreNowhere m.links → m.killed ≡ replicate 64 false → m.counts ≡ no_counts
-    → m.notes ≡ no_notes → m.last_turn ≡ initial_last_turn t.choices.is_fair → m.run.past ≡ seat_at_first t.table 0 → IsFirst t m
-first_is t m frames sized frame_states ledger nowhere killed counts notes turn past = record {
+    → m.notes ≡ no_notes → m.is_proportional ≡ t.choices.is_proportional → m.run.past ≡ seat_at_first t.table 0 → IsFirst t m
+first_is t m frames sized frame_states ledger nowhere killed counts notes choice past = record {
   frame_states = frame_states ∙ ap (λ (n : ℕ). replicate n Free) sized;
   ledger = ledger;
   nowhere = nowhere;
   killed = killed;
   counts = counts;
   notes = notes;
-  last_turn = turn;
+  is_proportional = choice;
   past = past;
 }

@@ -255,7 +255,7 @@ module _ (t : KnownTable) (m : KnownMachine) (c : KnownCpuLists) (ok : IsConsist
 
     kept_consistent : IsConsistent t kept
     kept_consistent = record {
-      turns = ok.turns;
+      choice = ok.choice;
       sizes = record {
         frame_states = length-set m.frame_states f (Head unit) ∙ ok.sizes.frame_states;
         links = joined.frames ∙ ok.sizes.links;
@@ -335,7 +335,7 @@ module _ (t : KnownTable) (m : KnownMachine) (c : KnownCpuLists) (ok : IsConsist
 
     dropped_consistent : IsConsistent t dropped
     dropped_consistent = record {
-      turns = ok.turns;
+      choice = ok.choice;
       sizes = record { frame_states = frees.frames ∙ ok.sizes.frame_states; links = ok.sizes.links; lists = ok.sizes.lists; killed = ok.sizes.killed };
       areas = areas;
       frame_states = dropped_fits;

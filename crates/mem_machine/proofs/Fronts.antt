@@ -2,11 +2,9 @@
 -- `take_front`.
 use Rattle.std.proofs.Common.{◌≡◌, ℕ, ◌+◌, ◌-◌, ◌*◌, ◌<◌, ◌≤◌, ◌==◌, Bool, true, false, Option, Some, None, List, [], ◌∷◌, ◌++◌, length, zero, suc}
 use Rattle.std.proofs.Common.{refl, sym, ap, ◌∙◌, subst, arith, cond}
-use Rattle.std.specs.List.{fold}
 use Rattle.std.specs.Prelude.{nat_le, nat_lt}
 use Rattle.std.proofs.lemmas.Bool.{and_from, false≢true, le-leb}
 use Rattle.std.proofs.lemmas.Option.{none-some}
-use Rattle.stock_word.specs.declared.stock.Stock.{Stock}
 use Rattle.stock_word.specs.declared.stock.Stock.TheVariants.{HeldBy}
 use Rattle.stock_word.specs.Stock.{group_of, is_held, stock_pages_of, group_base}
 use Rattle.group_charge.specs.Charges.{AreCharges, current_of}
@@ -15,7 +13,7 @@ use Rattle.step_rules.specs.declared.phase.Way.TheVariants.{OnList}
 use Rattle.step_rules.specs.declared.phase.Phase.TheVariants.{Lent}
 use Rattle.step_rules.specs.declared.step.Action.TheVariants.{Consume}
 use Rattle.step_rules.specs.declared.step.Answer.TheVariants.{Took}
-use Rattle.step_rules.specs.{Part, Zone, front_of, is_cpu, one_if, times, visits, Run, after, consumed, paid, with_part, with_phase, cpu_makes}
+use Rattle.step_rules.specs.{Part, Zone, front_of, is_cpu, one_if, times, visits, after, consumed, paid, cpu_makes}
 use Rattle.step_rules.specs.{IsAnswer, is_legal, IsLocalStep, other_part_seen}
 use Rattle.step_rules.specs.State.{State, sum_to}
 use Rattle.step_rules.proofs.Basics.{at_each, at_same}
@@ -26,7 +24,7 @@ use Rattle.cpu_part.proofs.Owning.{own_took}
 use Rattle.step_watch.specs.Watched.{KnownWatch, Watches}
 use Rattle.mem_machine.specs.declared.machine.Machine.TheInside.{Inside}
 use Rattle.mem_machine.specs.{frame_state_at, frame_state_group, IsSoundMachine, machine_of, Makes, Visits, local_of, visit_state, KnownMachine}
-use Rattle.mem_machine.specs.{IsConsistent, left_by, KnownRun, Records, after_made, HasRoomFor, HoldsPage, IsOfSize, PaysForFront, stock_now}
+use Rattle.mem_machine.specs.{IsConsistent, left_by, KnownRun, Records, HasRoomFor, HoldsPage, IsOfSize, PaysForFront}
 use Rattle.mem_machine.specs.{take_front_steps}
 use Rattle.mem_machine.proofs.Followed.{follows_same}
 use Rattle.mem_machine.proofs.Ledgers.{ledger_visit_state}

@@ -81,7 +81,7 @@ module _ (t : KnownTable) (m : KnownMachine) (ok : IsConsistent t m) (is : IsHel
       let same : HaveSameBooks (local_of t m).parts (after_made (local_of t m) made).parts = record { book = λ k. ap (λ (x : State). (x.parts k).book) group.only; group = λ k. ap (λ (x : State). (x.parts k).stock.group) group.only } in
       record {
         consistent = record {
-          turns = ok.turns;
+          choice = ok.choice;
           sizes = record { frame_states = ok.sizes.frame_states; links = ok.sizes.links; lists = ok.sizes.lists; killed = sized };
           areas = ok.areas;
           frame_states = ok.frame_states;
@@ -232,7 +232,7 @@ pub settings_consistent : (t : KnownTable) (m : KnownMachine) (l : Ledger) (g : 
     → IsConsistent t m → IsConsistent t (record m { ledger = l })
 unfolding pages_of account_at
 settings_consistent t m l g settings set ok = subst (λ (k : Ledger). IsConsistent t (record m { ledger = k })) (sym set) (record {
-  turns = ok.turns;
+  choice = ok.choice;
   sizes = record { frame_states = ok.sizes.frame_states; links = ok.sizes.links; lists = ok.sizes.lists; killed = ok.sizes.killed };
   areas = ok.areas;
   frame_states = ok.frame_states;

@@ -1,19 +1,18 @@
 -- A visit is opened and shut. Serves `open` and `shut`.
-use Rattle.std.proofs.Common.{◌≡◌, ℕ, ◌+◌, ◌==◌, ◌&&◌, Bool, true, Option, List, [], ◌∷◌, refl, sym, ap, ◌∙◌, subst, arith, eq-eqb}
+use Rattle.std.proofs.Common.{◌≡◌, ℕ, ◌+◌, true, [], ◌∷◌, refl, sym, ap, ◌∙◌, subst, arith, eq-eqb}
 use Rattle.std.proofs.lemmas.Bool.{and_from}
 use Rattle.step_rules.specs.declared.phase.Hold.{Hold}
-use Rattle.step_rules.specs.declared.phase.Hold.TheVariants.{HeldBy, Visiting}
 use Rattle.step_rules.specs.declared.step.Step.{Step}
 use Rattle.step_rules.specs.declared.step.Action.TheVariants.{OpenVisit, ShutVisit}
 use Rattle.step_rules.specs.declared.step.Answer.{Answer}
 use Rattle.step_rules.specs.declared.step.Answer.TheVariants.{Done}
-use Rattle.step_rules.specs.{told_pages, IsLocalStep, is_legal, is_held_by, visits}
+use Rattle.step_rules.specs.{IsLocalStep, is_held_by, visits}
 use Rattle.step_rules.specs.State.{State}
 use Rattle.boot_words.specs.Hidden.{hide}
 use Rattle.boot_words.specs.Tables.{KnownTable}
 use Rattle.cpu_part.specs.{KnownCpuLists, HasOwn}
 use Rattle.mem_machine.specs.{counts_along, IsSoundMachine, machine_of, Holds, IsShut, Makes, Visits, lock_holder, local_of, KnownMachine, IsShownBy}
-use Rattle.mem_machine.specs.{with_run, KnownRun, Records, after_made, open_steps, shut_steps}
+use Rattle.mem_machine.specs.{with_run, KnownRun, Records, after_made}
 use Rattle.mem_machine.specs.declared.machine.Machine.TheInside.{Inside}
 use Rattle.mem_machine.proofs.Followed.{are_still, follows_same}
 use Rattle.mem_machine.proofs.Hiding.{nothing_passes_here}
@@ -37,7 +36,7 @@ module _ {N : Type 0} (t : KnownTable) (fields : Inside N) (ok : IsSoundMachine 
       let same : HaveSameBooks (local_of t (machine_of {N = N} fields)).parts (after_made (local_of t (machine_of {N = N} fields)) e).parts = record { book = λ k. ap (λ (x : State). (x.parts k).book) only; group = λ k. ap (λ (x : State). (x.parts k).stock.group) only } in
       record {
         consistent = record {
-          turns = was.turns;
+          choice = was.choice;
           sizes = record { frame_states = was.sizes.frame_states; links = was.sizes.links; lists = was.sizes.lists; killed = was.sizes.killed };
           areas = was.areas;
           frame_states = was.frame_states;
@@ -48,6 +47,7 @@ module _ {N : Type 0} (t : KnownTable) (fields : Inside N) (ok : IsSoundMachine 
               (shown_held t (machine_of {N = N} fields) (with_run (machine_of {N = N} fields) run) (hide (local_of t (machine_of {N = N} fields))) hold refl (shown_seen t (machine_of {N = N} fields) was holds.held));
         };
         free = ok.free;
+        clean = ok.clean;
         sums = sums_stay t (machine_of {N = N} fields) holds.held (e ∷ []) run noted same fields.sums ok.sums;
         owners = owners_stay t (machine_of {N = N} fields) holds.held (e ∷ []) run noted same fields.owners ok.owners;
       }

@@ -91,7 +91,7 @@ module _ (t : KnownTable) (m : KnownMachine) (c : KnownCpuLists) (ok : IsConsist
 
   pub consistent_moved : IsConsistent t (record m { blocks = blocks; frame_states = slice_set m.frame_states f r; run = run })
   consistent_moved = record {
-    turns = ok.turns;
+    choice = ok.choice;
     sizes = record { frame_states = length-set m.frame_states f r ∙ ok.sizes.frame_states; links = ok.sizes.links; lists = ok.sizes.lists; killed = ok.sizes.killed };
     areas = areas;
     frame_states = fits;

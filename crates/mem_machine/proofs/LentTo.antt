@@ -1,10 +1,10 @@
 -- Who a frame is lent to is one of the CPUs, after every legal run. Serves the end of a system.
-use Rattle.std.proofs.Common.{◌≡◌, ℕ, ◌<◌, ◌≤◌, ◌==◌, ◌&&◌, ◌||◌, Bool, true, false, cond, Option, Some, None, List, refl, sym, ap, ◌∙◌, subst, inl, inr}
+use Rattle.std.proofs.Common.{◌≡◌, ℕ, ◌≤◌, ◌==◌, Bool, true, false, cond, Option, Some, None, refl, sym, ap, ◌∙◌, subst, inl, inr}
 use Rattle.std.proofs.lemmas.Bool.{or_right}
 use Rattle.std.proofs.lemmas.Option.{none-some}
 use Rattle.step_rules.specs.declared.phase.ChargedUnit.{ChargedUnit}
 use Rattle.step_rules.specs.declared.phase.Stage.{Stage}
-use Rattle.step_rules.specs.declared.phase.Stage.TheVariants.{FreshAt, Live, BackAt}
+use Rattle.step_rules.specs.declared.phase.Stage.TheVariants.{FreshAt}
 use Rattle.step_rules.specs.declared.phase.Phase.{Phase}
 use Rattle.step_rules.specs.declared.phase.Phase.TheVariants.{InZone, Lent, Head, Tail}
 use Rattle.step_rules.specs.declared.step.Step.{Step}
@@ -12,8 +12,8 @@ use Rattle.step_rules.specs.declared.step.Action.{Action}
 use Rattle.step_rules.specs.declared.step.Action.TheVariants.{Lock, Put, Freeze, Unfreeze, PassOut, TakeIn, PassBack, Collect, Consume, Credit, PlaceBlock, Return}
 use Rattle.step_rules.specs.declared.step.Answer.{Answer}
 use Rattle.step_rules.specs.declared.step.Answer.TheVariants.{Illegal, Done, Last, Placed, Stocked, Took}
-use Rattle.step_rules.specs.{IsHomed, KeepsInvariant, PhasePaid, groups_in, Allows, is_legal, at_stage, collected, passed_back, stage_after_last}
-use Rattle.step_rules.specs.{Zone, at_boot, front_of, is_cpu, is_held_by, visits, with_at, Run, after, consumed, is_within, state_of, IsLegalRun}
+use Rattle.step_rules.specs.{IsHomed, PhasePaid, groups_in, is_legal, at_stage, collected, passed_back, stage_after_last}
+use Rattle.step_rules.specs.{Zone, at_boot, front_of, is_cpu, is_held_by, visits, with_at, Run, after, consumed, state_of, IsLegalRun}
 use Rattle.step_rules.specs.State.{State}
 use Rattle.step_rules.proofs.Basics.{at_each}
 use Rattle.step_rules.proofs.Freeing.{zone_of_run}

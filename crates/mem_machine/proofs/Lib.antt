@@ -10,6 +10,7 @@ pub mod LedgerMoves
 pub mod Holds
 pub mod Collecting
 pub mod First
+pub mod Clean
 pub mod GroupSteps
 pub mod Records
 pub mod Lends

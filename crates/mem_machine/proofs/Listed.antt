@@ -257,7 +257,7 @@ pub lists_consistent : (t : KnownTable) (m : KnownMachine) → IsConsistent t m 
     → length lists ≡ length m.lists → ((f : ℕ) → option_map (λ (x : Home). x.owner) (home_of links f) ≡ option_map (λ (x : Home). x.owner) (home_of m.links f))
     → AllLinked links lists → IsConsistent t (record m { links = links; lists = lists })
 lists_consistent t m ok links lists linked listed owners all = record {
-  turns = ok.turns;
+  choice = ok.choice;
   sizes = record { frame_states = ok.sizes.frame_states; links = linked ∙ ok.sizes.links; lists = listed ∙ ok.sizes.lists; killed = ok.sizes.killed };
   areas = ok.areas;
   frame_states = λ f within. fits_home (home_of m.links f) (home_of links f) (frame_state_at m.frame_states f) (owners f) (ok.frame_states f within);

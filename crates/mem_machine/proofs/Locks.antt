@@ -1,24 +1,23 @@
 -- The lock is taken and released, and a CPU and the zone meet. Serves `lock`, `unlock` and `meet`.
-use Rattle.std.proofs.Common.{◌≡◌, ◌≢◌, ℕ, ◌≤◌, ◌==◌, ◌||◌, ◌&&◌, Bool, true, false, Option, List, [], ◌∷◌, ◌++◌, refl, sym, ap, ◌∙◌, subst, inl, inr, arith, eq-eqb}
-use Rattle.std.specs.Prelude.{not}
+use Rattle.std.proofs.Common.{◌≡◌, ◌≢◌, ℕ, ◌==◌, true, ◌++◌, refl, sym, ap, ◌∙◌, subst, inr, eq-eqb}
 use Rattle.std.proofs.lemmas.Bool.{and_from}
 use Rattle.step_rules.specs.declared.phase.Hold.{Hold}
 use Rattle.step_rules.specs.declared.phase.Hold.TheVariants.{HeldBy, Unheld}
 use Rattle.step_rules.specs.declared.step.Action.TheVariants.{Unlock}
 use Rattle.step_rules.specs.declared.step.Answer.TheVariants.{Done}
-use Rattle.step_rules.specs.{Part, Zone, is_cpu, is_held_by, Run, state_of, seen_by}
+use Rattle.step_rules.specs.{Part, Zone, is_cpu, is_held_by, state_of, seen_by}
 use Rattle.step_rules.specs.State.{State}
 use Rattle.step_rules.proofs.CoverParts.{own_part, own_reference}
 use Rattle.step_rules.proofs.Runs.{state_more}
 use Rattle.step_rules.proofs.Sums.{all_each}
 use Rattle.group_tree.specs.Bounds.{most_groups}
-use Rattle.boot_words.specs.{LeavesFree, HasSameLists, KnownPasts, IsHeld, IsZonePast, MayMake, Meets, Unlocks, cpu_past, local_by_pasts, own_past}
+use Rattle.boot_words.specs.{LeavesFree, HasSameLists, KnownPasts, IsZonePast, MayMake, Meets, Unlocks, cpu_past, own_past}
 use Rattle.boot_words.specs.{zone_of_boot, IsAwayCpu, KnownCpuSeat, state_left, KnownTable}
 use Rattle.boot_words.specs.Pasts.{Locks}
 use Rattle.boot_words.proofs.Owning.{lists_are_own}
 use Rattle.cpu_part.specs.{KnownCpuLists, HasOwn, KnowsItsPart}
 use Rattle.mem_machine.specs.declared.machine.Machine.TheInside.{Inside}
-use Rattle.mem_machine.specs.{AreBooked, AreOwners, IsSoundMachine, machine_of, KnownMachine, IsConsistent, IsShownBy, left_by, with_past, Holds}
+use Rattle.mem_machine.specs.{AreBooked, AreOwners, IsSoundMachine, machine_of, KnownMachine, IsConsistent, IsShownBy, left_by, Holds}
 use Rattle.mem_machine.specs.{IsShut, local_of, Rests}
 use Rattle.mem_machine.proofs.Hiding.{none_passes}
 use Rattle.mem_machine.proofs.Made.{holder_is_cpu, own_same, zone_seen}
@@ -44,7 +43,7 @@ module _ {N : Type 0} (t : KnownTable) (fields : Inside N) (ok : IsSoundMachine 
   sound_then =
       let was = ok.consistent in record {
         consistent = record {
-          turns = was.turns;
+          choice = was.choice;
           sizes = record { frame_states = was.sizes.frame_states; links = was.sizes.links; lists = was.sizes.lists; killed = was.sizes.killed };
           areas = was.areas;
           frame_states = was.frame_states;
@@ -55,6 +54,7 @@ module _ {N : Type 0} (t : KnownTable) (fields : Inside N) (ok : IsSoundMachine 
               (shown_held t (machine_of {N = N} fields) (machine_of {N = N} (record fields { past = past })) (left_by t fields.past) hold refl was.shown);
         };
         free = ok.free;
+        clean = ok.clean;
         sums = subst (λ (u : State). AreBooked t.cpus u.parts fields.sums) (sym found) (record { size = ok.sums.size; each = ok.sums.each });
         owners = subst (λ (u : State). AreOwners t.cpus u.parts fields.owners) (sym found)
             (record { size = ok.owners.size; few = ok.owners.few; each = ok.owners.each; beyond = ok.owners.beyond });

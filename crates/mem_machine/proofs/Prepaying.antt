@@ -1,17 +1,17 @@
 -- Pages are charged and fill the CPU's stock. Serves `fill_stock`.
-use Rattle.std.proofs.Common.{◌≡◌, ℕ, ◌+◌, ◌-◌, ◌<◌, ◌≤◌, ◌==◌, ◌||◌, ◌^◌, Bool, true, false, Option, Some, List, [], ◌∷◌, length, get_or, refl, sym, ap, ◌∙◌, subst, arith, eq-eqb}
+use Rattle.std.proofs.Common.{◌≡◌, ℕ, ◌+◌, ◌-◌, ◌<◌, ◌≤◌, ◌||◌, ◌^◌, Bool, true, false, Option, Some, List, [], ◌∷◌, length, get_or, refl, sym, ap, ◌∙◌, subst, arith, eq-eqb}
 use Rattle.std.specs.List.{fold}
 use Rattle.std.specs.Prelude.{slice_set}
 use Rattle.std.proofs.lemmas.Bool.{and_from, le-leb}
 use Rattle.group_tree.specs.declared.group.Group.{Group}
 use Rattle.group_tree.specs.Groups.{has_group}
 use Rattle.group_tree.specs.Room as room
-use Rattle.group_charge.specs.Charges.{Ledger, AreCharges, current_of, pages_of, with_charge}
+use Rattle.group_charge.specs.Charges.{Ledger, AreCharges, current_of, with_charge}
 use Rattle.group_charge.proofs.CallerLemmas.{charge_pages}
 use Rattle.stock_word.specs.Stock.{group_base}
 use Rattle.step_rules.specs.declared.step.Action.TheVariants.{Fill, Grant}
 use Rattle.step_rules.specs.declared.step.Answer.TheVariants.{Done, Granted, Over}
-use Rattle.step_rules.specs.{told_pages, Part, with_at, is_legal, is_of_group, takes_fill, Run, filled, state_of, with_part, IsLocalRun, zone_makes}
+use Rattle.step_rules.specs.{told_pages, Part, with_at, is_legal, is_of_group, takes_fill, filled, state_of, with_part, IsLocalRun, zone_makes}
 use Rattle.step_rules.specs.{other_part_seen}
 use Rattle.step_rules.specs.State.{State}
 use Rattle.step_rules.proofs.Basics.{at_each}
@@ -23,7 +23,7 @@ use Rattle.cpu_part.specs.Cpus.{KnownCpuLists}
 use Rattle.step_watch.specs.Watched.{KnownWatch, Watches}
 use Rattle.mem_machine.specs.declared.machine.Machine.TheInside.{Inside}
 use Rattle.mem_machine.specs.{AreBooked, AreOwners, FollowsSteps, IsSoundMachine, machine_of, Makes, StaysVisited, Visits, lock_holder, local_of}
-use Rattle.mem_machine.specs.{KnownMachine, IsConsistent, IsShownBy, frames_charged, is_killed, left_by, pages_booked, KnownRun, MayTake, MayTakeAll}
+use Rattle.mem_machine.specs.{KnownMachine, IsConsistent, IsShownBy, is_killed, left_by, KnownRun, MayTake, MayTakeAll}
 use Rattle.mem_machine.specs.{Records, after_made, HasRoomFor, MayCharge, fill_steps, over_steps, Fills, HasDrained, IsDrained, RefusesGrant}
 use Rattle.mem_machine.proofs.AtTable.{made_at}
 use Rattle.mem_machine.proofs.Booking.{books_more, sums_more}
@@ -168,7 +168,7 @@ module _ (t : KnownTable) (m : KnownMachine) (c : KnownCpuLists) (ok : IsConsist
 
         pub filled_consistent : k < group_base → (l : Ledger) → l ≡ with_charge m.ledger g k → IsConsistent t (record m { ledger = l; run = run })
         filled_consistent small l charged = subst (λ (x : Ledger). IsConsistent t (record m { ledger = x; run = run })) (sym charged) (record {
-          turns = ok.turns;
+          choice = ok.choice;
           sizes = record { frame_states = ok.sizes.frame_states; links = ok.sizes.links; lists = ok.sizes.lists; killed = ok.sizes.killed };
           areas = ok.areas;
           frame_states = ok.frame_states;
@@ -272,6 +272,7 @@ module _ {N : Type 0} (t : KnownTable) (fields : Inside N) (ok : IsSoundMachine 
     filled_sound small i is low n number charges charged owners set = record {
       consistent = filled_consistent t m c ok.consistent facts knows.visit none knows.drained g k knows.there knows.alive has run noted small charges charged;
       free = ok.free;
+      clean = ok.clean;
       sums = subst (λ (x : ℕ). AreBooked t.cpus (left_by t run.past).parts (slice_set fields.sums x (get_or fields.sums x 0 + k))) (sym is)
           (filled_sums t m c ok.consistent facts knows.visit none knows.drained g k knows.there knows.alive has run noted fields.sums ok.sums (subst (λ (x : ℕ). x < 64) is low));
       owners = subst (AreOwners t.cpus (left_by t run.past).parts) (sym (set ∙ ap (λ (x : ℕ). slice_set fields.owners (x - 1) (Some g)) number))

@@ -139,7 +139,7 @@ module _ (t : KnownTable) (m : KnownMachine) (ok : IsConsistent t m) (held : IsH
 
       pub left_consistent : IsConsistent t (record m { links = links; lists = lists; run = run })
       left_consistent = record {
-        turns = ok.turns;
+        choice = ok.choice;
         sizes = record { frame_states = ok.sizes.frame_states; links = linked; lists = listed; killed = ok.sizes.killed };
         areas = ok.areas;
         frame_states = λ g within. elim (cases_eq g f) [
@@ -205,7 +205,7 @@ module _ (t : KnownTable) (m : KnownMachine) (ok : IsConsistent t m) (held : IsH
           run = run;
         })
         freed_consistent left = record {
-          turns = ok.turns;
+          choice = ok.choice;
           sizes = record { frame_states = frees.frames ∙ ok.sizes.frame_states; links = linked; lists = listed; killed = ok.sizes.killed };
           areas = areas;
           frame_states = homes_fit t m ok f unit heads frame_states frees links leaves.homes homeless;

@@ -1,8 +1,7 @@
 -- What the lock's holder sees is what the machine's fields and its own lists show. Serves callers that read phases, parts
 -- or references of `local_of`.
-use Rattle.std.proofs.Common.{◌≡◌, ◌≢◌, ℕ, ◌+◌, ◌==◌, ◌&&◌, List, cond, refl, sym, ap, ◌∙◌, subst, inl, inr, arith, length}
+use Rattle.std.proofs.Common.{◌≡◌, ◌≢◌, ℕ, ◌==◌, ◌&&◌, List, cond, refl, sym, ap, ◌∙◌, subst}
 use Rattle.std.specs.Prelude.{is_some, nat_le, unwrap_or}
-use Rattle.step_rules.specs.declared.phase.Phase.{Phase}
 use Rattle.step_rules.specs.declared.phase.Phase.TheVariants as phase
 use Rattle.step_rules.specs.declared.phase.Stage.TheVariants.{FreshAt, BackAt, Live}
 use Rattle.step_rules.specs.declared.phase.Way.TheVariants.{OnList}
@@ -17,7 +16,7 @@ use Rattle.mem_machine.specs.declared.frame_state.FrameState.{FrameState}
 use Rattle.mem_machine.specs.declared.frame_state.FrameState.TheVariants.{Free, Lent, Head, Tail}
 use Rattle.mem_machine.specs.{frame_state_at, phase_hidden, KnownMachine, IsConsistent, home_of, left_by, part_at, Holds, group_of_fresh, local_of}
 use Rattle.mem_machine.specs.{phase_of, visit_state}
-use Rattle.mem_machine.proofs.Sight.{left_seen, shown_seen}
+use Rattle.mem_machine.proofs.Sight.{shown_seen}
 
 phase_as : (c : KnownCpuLists) (part : Part) (g f : ℕ) (x : FrameState) → unwrap_or part.stock.group 0 ≡ g → part.fresh ≡ c.fresh → part.back ≡ c.back
     → show_phase c.number part f (phase_hidden x) ≡ phase_of c g f x

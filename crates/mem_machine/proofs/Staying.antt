@@ -95,7 +95,7 @@ sound_same {N} t fields ok run left =
     let was = ok.consistent in
     let shown = was.shown in record {
       consistent = record {
-        turns = was.turns;
+        choice = was.choice;
         sizes = record { frame_states = was.sizes.frame_states; links = was.sizes.links; lists = was.sizes.lists; killed = was.sizes.killed };
         areas = was.areas;
         frame_states = was.frame_states;
@@ -114,6 +114,7 @@ sound_same {N} t fields ok run left =
         });
       };
       free = ok.free;
+      clean = ok.clean;
       sums = subst (λ (s : State). AreBooked t.cpus s.parts fields.sums) (sym left) ok.sums;
       owners = subst (λ (s : State). AreOwners t.cpus s.parts fields.owners) (sym left) ok.owners;
     }

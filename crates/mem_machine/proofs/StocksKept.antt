@@ -4,7 +4,6 @@ use Rattle.std.specs.List.{fold}
 use Rattle.std.specs.Prelude.{◌⊎◌}
 use Rattle.std.proofs.lemmas.Bool.{false≢true, or_parts}
 use Rattle.stock_word.specs.declared.stock.Stock.TheVariants.{HeldBy}
-use Rattle.step_rules.specs.declared.step.Step.{Step}
 use Rattle.step_rules.specs.declared.step.Action.{Action}
 use Rattle.step_rules.specs.declared.step.Action.TheVariants.{Put, TakeIn, PassBack, Consume, Credit, Report, Absorb, DrainStock, Fill, Lock}
 use Rattle.step_rules.specs.declared.step.Answer.{Answer}

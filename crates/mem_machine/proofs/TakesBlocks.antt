@@ -261,7 +261,7 @@ module _ (t : KnownTable) (m : KnownMachine) (ok : IsConsistent t m) (facts : Ar
 
       pub taken_consistent : IsConsistent t (record m { blocks = blocks; frame_states = frame_states; ledger = with_charge m.ledger g (2 ^ b.order); links = links; lists = lists; run = run })
       taken_consistent = record {
-        turns = ok.turns;
+        choice = ok.choice;
         sizes = record {
           frame_states = places.frames ∙ ok.sizes.frame_states;
           links = joined.frames ∙ ok.sizes.links;
@@ -418,7 +418,7 @@ module _ (t : KnownTable) (m : KnownMachine) (ok : IsConsistent t m) (facts : Ar
 
     pub none_consistent : IsConsistent t (record m { ledger = with_uncharge (with_charge m.ledger g (2 ^ k)) g (2 ^ k); run = run })
     none_consistent = record {
-      turns = ok.turns;
+      choice = ok.choice;
       sizes = record { frame_states = ok.sizes.frame_states; links = ok.sizes.links; lists = ok.sizes.lists; killed = ok.sizes.killed };
       areas = ok.areas;
       frame_states = ok.frame_states;

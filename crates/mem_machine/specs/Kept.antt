@@ -3,6 +3,7 @@ use Rattle.std.specs.Prelude.{◌≡◌}
 use Rattle.boot_words.specs.Tables.{KnownTable}
 use Rattle.mem_machine.specs.declared.machine.Machine.TheInside.{Inside}
 use Rattle.mem_machine.specs.FrameStates.{free_of}
+use Rattle.mem_machine.specs.Clean.{AreCleanCounts}
 use Rattle.mem_machine.specs.Booked.{AreBooked, AreOwners}
 use Rattle.mem_machine.specs.Machines.{KnownMachine, IsConsistent, left_by}
 
@@ -17,14 +18,15 @@ machine_of fields = record {
   killed = fields.killed.items;
   counts = fields.counts;
   notes = fields.notes;
-  last_turn = fields.last_turn;
+  is_proportional = fields.is_proportional;
   run = record { past = fields.past; watch = fields.watch };
 }
 
--- What the fields show is consistent. The zone's free frames are those whose record is Free. The sums and owners are
--- those of the stocks that the past left.
+-- What the fields show is consistent. The zone's free frames are those whose record is Free. The counts are those of the
+-- clean pages on the groups' lists. The sums and owners are those of the stocks that the past left.
 pub record IsSoundMachine {N : Type 0} (table : KnownTable) (fields : Inside N) : Type 0 where
   pub consistent : IsConsistent table (machine_of fields)
   pub free : fields.zone.free ≡ free_of fields.frame_states.items
+  pub clean : AreCleanCounts fields.frame_states.items fields.links fields.clean
   pub sums : AreBooked table.cpus (left_by table fields.past).parts fields.sums
   pub owners : AreOwners table.cpus (left_by table fields.past).parts fields.owners

@@ -17,6 +17,7 @@ pub mod Marks
 pub mod Ageing
 pub mod Freeing
 pub mod Lists
+pub mod Clean
 pub mod Blocks
 pub mod Interleaving
 pub mod Agreeing
@@ -35,7 +36,8 @@ pub use Rattle.mem_machine.specs.Counts.{BalancesCounts, no_counts, with_freeze,
 pub use Rattle.mem_machine.specs.Machines.{AddsGroup, FitsFrameState, HeadsKeptUnit, IsConsistent, IsCpuOf, IsFirst, IsShownBy, KnownMachine}
 pub use Rattle.mem_machine.specs.Machines.{LacksRoom, OneByOne, OthersStay, UnlistedStay, VisitState, VisitStateStays, active_in, booked, entries_in}
 pub use Rattle.mem_machine.specs.Machines.{frames_charged, group_lists, home_of, inactive_in, is_killed, left_by, lists_at, lists_of, no_lists}
-pub use Rattle.mem_machine.specs.Machines.{pages_booked, part_at, stock_group, visit_state, with_note, with_turn, with_past, with_run, with_detail_notes}
+pub use Rattle.mem_machine.specs.Clean.{AreCleanCounts, clean_dirtied, clean_joined, clean_left, clean_owner, clean_pages, clean_pages_in, pages_headed, pages_if_is}
+pub use Rattle.mem_machine.specs.Machines.{pages_booked, part_at, stock_group, visit_state, with_note, with_past, with_run, with_detail_notes}
 pub use Rattle.mem_machine.specs.Machines.{with_watch, without_notes}
 pub use Rattle.mem_machine.specs.Kept.{IsSoundMachine, machine_of}
 pub use Rattle.mem_machine.specs.Following.{ExistsAfter, FollowsSteps, Moves, moved_along, moves_count, moves_peak}

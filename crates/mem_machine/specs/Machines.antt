@@ -1,5 +1,5 @@
 -- What contracts see of the machine, and what always holds of it.
-use Rattle.std.specs.Prelude.{◌≡◌, ◌≢◌, ℕ, ◌+◌, ◌<◌, ◌≤◌, ◌==◌, Bool, false, true, Option, Some, None, is_some, IfSome, List, [], ◌∷◌, length, replicate, slice_set, if◌then◌else◌}
+use Rattle.std.specs.Prelude.{◌≡◌, ◌≢◌, ℕ, ◌+◌, ◌<◌, ◌≤◌, ◌==◌, Bool, false, Option, Some, None, is_some, IfSome, List, [], ◌∷◌, length, replicate, slice_set, if◌then◌else◌}
 use Rattle.std.specs.List.{slice_index_or}
 use Rattle.zone_blocks.specs.declared.block.Block.{Block}
 use Rattle.zone_blocks.specs.Areas.{AreMaximalBlocks}
@@ -32,8 +32,8 @@ use Rattle.mem_machine.specs.FrameStates.{AreUnits, frame_state_at, free_of, pha
 
 -- The machine holds the free areas, a record for each frame, and the groups with their charges. It holds the links of
 -- all kept units, two lists for each group number, and which group numbers are killed. It counts how units ended, how
--- many were freed and how many were missed. It holds the notes since the last `forget_notes`, and, if turns go round,
--- the group that had the last turn of a reclaim. It holds the pasts of the zone and of the lock's holder, which grow by
+-- many were freed and how many were missed. It holds the notes since the last `forget_notes`, and whether a reclaim
+-- begins with a pass of shares. It holds the pasts of the zone and of the lock's holder, which grow by
 -- each step, and the watch, which takes each step right after it.
 pub record KnownMachine : Type 0 where
   pub blocks : List Block
@@ -44,7 +44,7 @@ pub record KnownMachine : Type 0 where
   pub killed : List Bool
   pub counts : Counts
   pub notes : KnownNotes
-  pub last_turn : Option ℕ
+  pub is_proportional : Bool
   pub run : KnownRun
 
 -- the machine after one more note
@@ -58,20 +58,6 @@ with_detail machine note = record machine { notes = detail_noted machine.notes n
 -- the machine after all notes are forgotten
 abbrev pub without_notes : KnownMachine → KnownMachine
 without_notes machine = record machine { notes = forgotten machine.notes }
-
--- the group that had the last turn, after a turn of this group: None if turns don't go round
-abbrev pub turn_after : Option ℕ → (group : ℕ) → Option ℕ
-turn_after None group = None
-turn_after (Some last) group = Some group
-
--- the machine after a turn of this group began
-abbrev pub with_turn : KnownMachine → (group : ℕ) → KnownMachine
-with_turn machine group = record machine { last_turn = turn_after machine.last_turn group }
-
--- the group that had the last turn, before any had one: none if turns don't go round, else the root
-abbrev pub initial_last_turn : (is_fair : Bool) → Option ℕ
-initial_last_turn false = None
-initial_last_turn true = Some 0
 
 -- the machine with details noted from now on, or not
 abbrev pub with_detail_notes : KnownMachine → (is_on : Bool) → KnownMachine
@@ -215,7 +201,7 @@ pub record AreSized (table : KnownTable) (machine : KnownMachine) : Type 0 where
 -- The machine is consistent. Its sizes are those of the table. The free areas are the maximal blocks of the free
 -- frames. Each frame's record agrees with the lists. The charged frames make up units. All lists agree with the links.
 -- The units freed are the last puts, freezes and killed fresh frames together, or the greatest count if that is less.
--- A group has the last turn if and only if the boot chose that turns go round. All else is what the machine's past left.
+-- A reclaim begins with a pass of shares if and only if the boot chose that. All else is what the machine's past left.
 pub record IsConsistent (table : KnownTable) (machine : KnownMachine) : Type 0 where
   pub sizes : AreSized table machine
   pub areas : AreMaximalBlocks (free_of machine.frame_states) machine.blocks
@@ -224,7 +210,7 @@ pub record IsConsistent (table : KnownTable) (machine : KnownMachine) : Type 0 w
   pub units : AreUnits machine.frame_states
   pub lists : AllLinked machine.links machine.lists
   pub balances : BalancesCounts machine.counts
-  pub turns : is_some machine.last_turn ≡ table.choices.is_fair
+  pub choice : machine.is_proportional ≡ table.choices.is_proportional
   pub shown : IsShownBy table machine (left_by table machine.run.past)
 
 -- a group of this path was made: it has the least free number, and it isn't killed
@@ -273,7 +259,7 @@ abbrev pub IsCpuOf : KnownTable → ℕ → Type 0
 IsCpuOf table cpu = (1 ≤ cpu) × (cpu ≤ table.cpus)
 
 -- The machine of a new boot. All frames are free and on no list, only the root exists, and no group is killed. All
--- counts are 0, nothing is noted, and no group had a turn. No step was made yet.
+-- counts are 0, and nothing is noted. No step was made yet.
 pub record IsFirst (table : KnownTable) (machine : KnownMachine) : Type 0 where
   pub frame_states : machine.frame_states ≡ replicate table.frames Free
   pub ledger : machine.ledger ≡ initial_ledger
@@ -281,5 +267,5 @@ pub record IsFirst (table : KnownTable) (machine : KnownMachine) : Type 0 where
   pub killed : machine.killed ≡ replicate most_groups false
   pub counts : machine.counts ≡ no_counts
   pub notes : machine.notes ≡ no_notes
-  pub last_turn : machine.last_turn ≡ initial_last_turn table.choices.is_fair
+  pub is_proportional : machine.is_proportional ≡ table.choices.is_proportional
   pub past : machine.run.past ≡ seat_at_first table.table 0

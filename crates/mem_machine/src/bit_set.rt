@@ -1,7 +1,7 @@
 //! Sets of numbers below 64, each as one word, which has a 1 in the place of each member. The place of a group is its
 //! number, and that of CPU 1 is 0.
 
-ghost use Rattle.std.specs.Prelude.{◌≡◌, ◌≢◌, ◌<◌, ◌≤◌, ℕ, IfSome, MatchOption, nat_lt, if◌then◌else◌};
+ghost use Rattle.std.specs.Prelude.{◌≡◌, ◌≢◌, ◌<◌, ◌≤◌, ℕ, IfSome, MatchOption};
 ghost use Rattle.std.specs.Int.{bit_at};
 
 /// The set with this member too.
@@ -36,14 +36,4 @@ pub fn take_first(word: &mut u64) -> Option<u32>
     let place = word.trailing_zeros();
     *word = without(*word, place);
     Some(place)
-}
-
-/// The members above a place, and then the others.
-pub fn parted(word: u64, place: u32) -> (u64, u64)
-    requires { place < 64 }
-    ensures above { (i : ℕ) → i < 64 → bit_at result.0 i ≡ (if nat_lt place i then bit_at word i else 0) }
-    ensures others { (i : ℕ) → i < 64 → bit_at result.1 i ≡ (if nat_lt place i then 0 else bit_at word i) }
-{
-    let others = word & (u64::MAX >> (63 - place));
-    (word ^ others, others)
 }

@@ -94,7 +94,14 @@ impl<N: BootName> Machine<N> {
         make_step(tables, &mut self.past, &mut self.watch, || {
             (Action::PlaceBlock { group, order }, Answer::Placed(block))
         });
-        join_list(&mut self.links, &mut self.lists, group, block.at);
+        join_list(
+            &mut self.links,
+            &mut self.lists,
+            &mut self.clean,
+            group,
+            order,
+            block.at,
+        );
         publish(tables, &mut self.past, &mut self.watch, head);
         Ok(head)
     }

@@ -41,7 +41,14 @@ impl<N: BootName> Machine<N> {
         };
         let group = unit.group;
         let order = unit.order;
-        leave_list(&mut self.links, &mut self.lists, frame);
+        leave_list(
+            &mut self.links,
+            &mut self.lists,
+            &mut self.clean,
+            group,
+            order,
+            frame,
+        );
         free_unit(
             &mut self.zone,
             &mut self.frame_states,

@@ -26,6 +26,7 @@
 mod ageing;
 pub mod bit_set;
 mod blocks;
+mod choices;
 mod counts;
 mod ending;
 mod evicting;
@@ -52,7 +53,6 @@ mod start;
 mod stepping;
 mod stocks;
 mod subtrees;
-mod turns;
 mod visits;
 mod watching;
 

@@ -6,12 +6,12 @@ ghost use Rattle.boot_words.specs.Opening.{seat_at_first};
 ghost use Rattle.mem_machine.specs.Resting.{Rests};
 ghost use Rattle.mem_machine.specs.Machines.{IsConsistent, IsFirst};
 
+use crate::choices::is_proportional;
 use crate::counts::Counts;
 use crate::frame_state::FrameState;
 use crate::owners::StockOwners;
 use crate::proving::prove_sizes;
 use crate::start::{Parts, new_parts};
-use crate::turns::initial_last_turn;
 use boot_words::PastSeat;
 use cpu_part::{BootName, Tables};
 use group_charge::charges::Charges;
@@ -37,6 +37,9 @@ pub struct Machine<N: BootName> {
     pub(crate) links: Links,
     // The ends and lengths of the two lists of each of the 64 group numbers, by the number.
     pub(crate) lists: Vec<Lru>,
+    // How many clean pages are on the lists of each group, by its number. At most 2^32 frames may each head a unit of 1,024
+    // pages, so no count overflows.
+    pub(crate) clean: [u64; MAX_GROUPS],
     // By group number: the pages booked to the group's stocks, 0 to 2^32 - 1. What is booked to one CPU's stock exists
     // only in proofs, as a part of what the past left.
     pub(crate) sums: [u32; MAX_GROUPS],
@@ -49,8 +52,8 @@ pub struct Machine<N: BootName> {
     // The notes since the last `forget_notes`: limits without room, what was tried there, which units were reclaimed,
     // and who was killed.
     pub(crate) notes: Notes,
-    // The group that had the last turn of a reclaim. None if turns don't go round, which the boot chose then.
-    pub(crate) last_turn: Option<GroupId>,
+    // Whether a reclaim begins with a pass of shares, which the boot chose then.
+    pub(crate) is_proportional: bool,
     // The zone's past, which has that of the lock's holder too while the lock is held.
     pub(crate) past: PastSeat,
     // Takes each step of the zone's seat and of the CPU that holds the lock, right after the step.
@@ -95,6 +98,7 @@ impl<N: BootName> Machine<N> {
             charges: parts.charges,
             links: parts.links,
             lists: parts.lists,
+            clean: [0; MAX_GROUPS],
             sums: [0; MAX_GROUPS],
             owners: StockOwners::new(),
             killed: parts.killed,
@@ -106,7 +110,7 @@ impl<N: BootName> Machine<N> {
                 misses: 0,
             },
             notes: parts.notes,
-            last_turn: initial_last_turn(tables),
+            is_proportional: is_proportional(tables),
             past,
             watch: Watch::off(),
             of: PhantomData,
@@ -124,12 +128,13 @@ impl<N: BootName> Machine<N> {
             charges,
             links,
             lists,
+            clean: _,
             sums: _,
             owners,
             killed,
             counts: _,
             notes,
-            last_turn: _,
+            is_proportional: _,
             past,
             watch,
             of: _,

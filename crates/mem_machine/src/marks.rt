@@ -6,6 +6,8 @@ ghost use Rattle.mem_machine.specs.Machines.{HeadsKeptUnit};
 ghost use Rattle.mem_machine.specs.Marks.{Dirties, TouchesUnit};
 ghost use Rattle.mem_machine.specs.Local.{Makes};
 
+use crate::frame_state::FrameState;
+use crate::lists::count_dirt;
 use crate::machine::Machine;
 use cpu_part::BootName;
 use frame_word::Frame;
@@ -44,6 +46,12 @@ impl<N: BootName> Machine<N> {
         let Some(home) = self.links.home(at) else {
             unreachable!()
         };
+        let FrameState::Head(unit) = self.frame_states[at as usize] else {
+            unreachable!()
+        };
+        let _frames = self.links.frames(); // Fewer than 2^32, so that the count doesn't overflow.
+        let was_dirty = self.links.is_dirty(at);
+        count_dirt(&mut self.clean, unit.group, unit.order, was_dirty, is_dirty);
         let lists = self.lists[home.owner as usize];
         list_laws::others_stay_linked();
         list_laws::one_of_all_changes();

@@ -4,6 +4,7 @@ ghost use Rattle.std.specs.Prelude.{◌≡◌, ◌<◌, ◌↔◌, IsTrue};
 ghost use Rattle.group_tree.specs.Groups.{has_group};
 ghost use Rattle.group_charge.specs.Charges.{current_of};
 ghost use Rattle.zone_blocks.specs.Areas.{AreMaximalBlocks};
+ghost use Rattle.mem_machine.specs.Clean.{clean_pages};
 ghost use Rattle.mem_machine.specs.FrameStates.{frame_state_at, free_of, place_of, headed_unit};
 ghost use Rattle.mem_machine.specs.Machines.{HeadsKeptUnit, IsConsistent, frames_charged, is_killed};
 
@@ -89,6 +90,21 @@ impl<N: BootName> Machine<N> {
         ensures { result ≡ self.now.counts }
     {
         self.counts
+    }
+
+    /// How many clean pages the group keeps: those of the units on its two lists that aren't dirty.
+    pub fn clean_pages(&self, group: GroupId) -> u64
+        ensures { result ≡ clean_pages self.now group }
+    {
+        self.clean[group.number() as usize]
+    }
+
+    /// Whether a reclaim begins with a pass of shares (`Choices::is_proportional`).
+    pub fn is_proportional(&self) -> bool
+        ensures choice { result ≡ self.now.is_proportional }
+        ensures boot { result ≡ N.table.choices.is_proportional }
+    {
+        self.is_proportional
     }
 
     /// How many frames are charged to the group itself, those of units that aren't kept any more included. These are

@@ -37,7 +37,17 @@ impl<N: BootName> Machine<N> {
         ensures steps { Makes N.table self.old (release_steps head result) self.new }
     {
         let at = head.number();
-        leave_list(&mut self.links, &mut self.lists, at);
+        let FrameState::Head(unit) = self.frame_states[at as usize] else {
+            unreachable!()
+        };
+        leave_list(
+            &mut self.links,
+            &mut self.lists,
+            &mut self.clean,
+            unit.group,
+            unit.order,
+            at,
+        );
         match tables.words.put_held(&mut self.past, 0, head) {
             Put::Left(left) => {
                 let still = left as u32;
@@ -48,9 +58,6 @@ impl<N: BootName> Machine<N> {
             Put::Last => {
                 self.watch
                     .take(0, || (Action::Put { frame: at }, Answer::Last));
-                let FrameState::Head(unit) = self.frame_states[at as usize] else {
-                    unreachable!()
-                };
                 free_unit(
                     &mut self.zone,
                     &mut self.frame_states,

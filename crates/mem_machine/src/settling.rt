@@ -91,7 +91,14 @@ impl<N: BootName> Machine<N> {
         let frame = head.number();
         let order = single_order();
         self.frame_states[frame as usize] = FrameState::Head(ChargedUnit { group, order });
-        join_list(&mut self.links, &mut self.lists, group, frame);
+        join_list(
+            &mut self.links,
+            &mut self.lists,
+            &mut self.clean,
+            group,
+            order,
+            frame,
+        );
         publish(tables, &mut self.past, &mut self.watch, head);
         head
     }

@@ -15,7 +15,7 @@ use Rattle.boot_words.specs.Tables.{KnownTable}
 use Rattle.mem_machine.specs.declared.frame_state.FrameState.{FrameState}
 use Rattle.mem_machine.specs.declared.frame_state.FrameState.TheVariants.{Free, Head}
 use Rattle.mem_machine.specs.FrameStates.{frame_state_at}
-use Rattle.mem_machine.specs.{IsConsistent, KnownMachine, with_turn, Evicts, entries_in}
+use Rattle.mem_machine.specs.{IsConsistent, KnownMachine, clean_pages, Evicts, entries_in}
 use Rattle.mem_reclaim.specs.declared.passes.Pass.{Pass}
 use Rattle.mem_reclaim.specs.declared.passes.Pass.TheVariants.{First, Second, Third}
 use Rattle.mem_reclaim.specs.Passes.{NotesLowIf, PassesGroup, ReclaimsGroup, TakesTurn, notes_spared, spared_by, with_detail_if}
@@ -159,14 +159,14 @@ module _ (pass : Pass) (target g want : ℕ) (done : Progress) where
   wanted = wanted_of pass target g want done.before
 
   abbrev begun : KnownMachine
-  begun = with_detail_if (notes_spared pass used want wanted) done.before (note.Spared g used least low)
+  begun = with_detail_if (notes_spared pass (clean_pages done.before g) want wanted) done.before (note.Spared g used least low)
 
   few_more : (most : ℕ) → 1 ≤ most → UnitsHaveAtMost most done.before → TakesTurn pass target g want done → done.freed < wanted + most
   few_more most one units (inl none) = let z = none.1.no_page in omega (arith, z, one)
   few_more most one units (inr some) =
-      (group_few most one pass least low used g wanted (progress done.freed (with_turn begun g) done.steps done.after)
-      (same_units most done.before (with_turn begun g)
-      (same_states (notes_spared pass used want wanted) done.before (note.Spared g used least low)) units) some.1).freed
+      (group_few most one pass least low used g wanted (progress done.freed begun done.steps done.after)
+      (same_units most done.before begun
+      (same_states (notes_spared pass (clean_pages done.before g) want wanted) done.before (note.Spared g used least low)) units) some.1).freed
 
   leaves_min : UnitsHaveAtMost 1 done.before → TakesTurn pass target g want done → 1 ≤ least → done.freed ≤ used - least
   leaves_min units turn protected =

@@ -87,22 +87,6 @@ keeps_after_notes t m n notes k = record {
   misses = k.misses;
 }
 
--- nor does another group of the last turn before
-pub keeps_after_last : (t : KnownTable) (m n : KnownMachine) (last : Option ℕ) → Keeps t (record m { last_turn = last }) n → Keeps t m n
-keeps_after_last t m n last k = record {
-  stocks = k.stocks;
-  killed = k.killed;
-  groups = k.groups;
-  settings = k.settings;
-  hold = k.hold;
-  usage = k.usage;
-  visit = λ c v. k.visit c (visit_same t m (record m { last_turn = last }) c refl v);
-  dirty = λ f is. k.dirty f (record { kept = is.kept; dirty = is.dirty });
-  owners = k.owners;
-  dirt = k.dirt;
-  misses = k.misses;
-}
-
 pub only_both : (a b c : KnownMachine) → OnlyLeave a b → OnlyLeave b c → OnlyLeave a c
 only_both a b c p q f h is = p f h (q f h is)
 

@@ -15,5 +15,5 @@ pub mod KillSets
 pub mod Dying
 pub mod Rising
 pub mod Noted
-pub mod Turns
+pub mod Giving
 mod FewMore

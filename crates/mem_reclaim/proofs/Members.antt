@@ -1,5 +1,5 @@
 -- The members of a set of numbers, which is one word, by ascending number. Serves `reclaim_pass`.
-use Rattle.std.proofs.Common.{◌≡◌, ◌≢◌, ℕ, zero, suc, ◌+◌, ◌<◌, ◌≤◌, ◌↔◌, Bool, true, false, ◌&&◌, List, [], ◌∷◌, refl, sym, ap, ◌∙◌, inl, inr, arith, cond, eqb, eq-eqb}
+use Rattle.std.proofs.Common.{◌≡◌, ◌≢◌, ℕ, zero, suc, ◌+◌, ◌<◌, ◌≤◌, ◌↔◌, Bool, true, List, [], ◌∷◌, refl, sym, ap, ◌∙◌, inl, inr, arith, cond, eqb, eq-eqb}
 use Rattle.std.specs.Prelude.{filter}
 use Rattle.std.specs.Int.{bit_at}
 use Rattle.std.specs.List.{range_with_len}
@@ -26,20 +26,6 @@ same_members word test k n are = filter_same test (λ i. eqb (bit_at word i) 1) 
 ])
 
 -- ---- a set in two parts
-
-filter_one : (p : ℕ → Bool) (b : Bool) (x : ℕ) (ys zs : List ℕ) → filter p ys ≡ zs → filter p (cond b (x ∷ ys) ys) ≡ cond (b && p x) (x ∷ zs) zs
-filter_one p true x ys zs same = λ i. cond (p x) (x ∷ same i) (same i)
-filter_one p false x ys zs same = same
-
-filter_both : (p q : ℕ → Bool) (xs : List ℕ) → filter p (filter q xs) ≡ filter (λ i. q i && p i) xs
-filter_both p q [] = refl
-filter_both p q (x ∷ xs) = filter_one p (q x) x (filter q xs) (filter (λ i. q i && p i) xs) (filter_both p q xs)
-
--- those members of a set of which another test is true too
-pub part_members : (word : ℕ) (test more : ℕ → Bool) (k n : ℕ)
-    → ((i : ℕ) → k ≤ i → i < k + n → (bit_at word i ≡ 1) ↔ ((test i && more i) ≡ true))
-    → filter more (filter test (range_with_len k n)) ≡ members word k n
-part_members word test more k n are = filter_both more test (range_with_len k n) ∙ same_members word (λ i. test i && more i) k n are
 
 -- ---- the first member
 

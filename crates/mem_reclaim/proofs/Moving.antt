@@ -103,18 +103,6 @@ moves_after_notes t m n freed steps notes k = record {
   missed = k.missed;
 }
 
--- and from one in which another group had the last turn
-pub moves_after_turn : (t : KnownTable) (m n : KnownMachine) (freed : ℕ) (steps : Run) (last : Option ℕ)
-    → FreesPages t (record m { last_turn = last }) freed steps n → FreesPages t m freed steps n
-moves_after_turn t m n freed steps last k = record {
-  runs = let r = k.runs in record { holder = r.holder; leads = r.leads; follows = r.follows; counts = r.counts; noted = r.noted };
-  pages = k.pages;
-  no_kill = k.no_kill;
-  misses = k.misses;
-  returned = k.returned;
-  missed = k.missed;
-}
-
 -- ---- one try
 
 -- a frame that looks live is live, or back at the CPU

@@ -11,6 +11,7 @@ use Rattle.group_protection.specs.Protections.{effective, low_key, min_key}
 use Rattle.mem_reclaim.specs.declared.passes.Pass.{Pass}
 use Rattle.mem_reclaim.specs.declared.passes.Pass.TheVariants.{First, Second, Third}
 use Rattle.mem_reclaim.specs.Laws.{ProtectedGroupsHaveNoTurn}
+use Rattle.mem_machine.specs.Clean.{clean_pages}
 use Rattle.mem_reclaim.specs.Passes.{notes_spared, spared_by, turn_want}
 use Rattle.mem_reclaim.proofs.Passing.{only_noted}
 use Rattle.mem_reclaim.specs.{TheVictimIsOne, Rises, all_missed_in, returned_in, own_frames, victim_note}
@@ -48,7 +49,7 @@ protected_groups_have_no_turn pass target g want done (inl none) some low =
     let of_min : ℕ = effective min_key done.before.ledger target g in
     let of_low : ℕ = effective low_key done.before.ledger target g in
     let usage : ℕ = current_of done.before.ledger g in
-    let is_noted = notes_spared pass usage want (turn_want want usage (spared_by pass of_min of_low)) in
+    let is_noted = notes_spared pass (clean_pages done.before g) want (turn_want want usage (spared_by pass of_min of_low)) in
     record {
       no_page = none.1.no_page;
       machine = only_noted is_noted done.before done.after (note.Spared g usage of_min of_low) none.1.machine;

@@ -1,10 +1,11 @@
 -- Passes over a group and over the groups of a subtree. Serves all of `passes` and `reclaiming`.
 use Rattle.std.proofs.Common.{◌≡◌, ◌≢◌, ℕ, ◌+◌, ◌-◌, ◌<◌, ◌≤◌, ◌==◌, ◌&&◌, Bool, true, false, List, [], ◌∷◌, ◌++◌, cond}
 use Rattle.std.proofs.Common.{refl, sym, ap, ◌∙◌, subst, inl, inr, arith, nat_lt}
-use Rattle.std.specs.Prelude.{Option, Some, None, filter, min, not}
+use Rattle.std.specs.Prelude.{Option, Some, None, min, option_map}
 use Rattle.std.specs.Int.{bit_at}
-use Rattle.std.proofs.lemmas.Bool.{and_parts, cases_Bool, cases_eq, cases_lt, cond-false, cond-true, eq-eqb, false≢true, ne_eqb, not-true}
+use Rattle.std.proofs.lemmas.Bool.{cases_eq, cases_lt, cond-false, cond-true, eq-eqb, false≢true, ne_eqb, not-true}
 use Rattle.std.proofs.lemmas.Nat.Bits.{bit_at-zero}
+use Rattle.std.proofs.lemmas.Option.{none-some}
 use Rattle.boot_words.specs.Pasts.{IsHeld}
 use Rattle.group_tree.specs.declared.event.EventKey.TheVariants as event
 use Rattle.group_tree.specs.declared.group.Group.{Group}
@@ -24,27 +25,29 @@ use Rattle.lru_lists.specs.declared.record.LruList.TheVariants.{Inactive, Active
 use Rattle.step_rules.specs.declared.step.NoteKey.TheVariants as key
 use Rattle.step_rules.specs.After.{Run}
 use Rattle.boot_words.specs.Tables.{KnownTable}
-use Rattle.mem_machine.specs.Machines.{KnownMachine, home_of, with_detail, with_run, with_turn}
+use Rattle.mem_machine.specs.Machines.{KnownMachine, home_of, with_detail, with_run}
 use Rattle.mem_machine.specs.Local.{Makes, StaysVisited}
+use Rattle.mem_machine.specs.Clean.{clean_pages}
 use Rattle.mem_machine.specs.Noted.{KnownRun}
 use Rattle.mem_machine.specs.Ageing.{AgesGroup}
 use Rattle.mem_machine.specs.Steps.{note_steps}
 use Rattle.mem_machine.specs.Subtrees.{IsSubtree}
-use Rattle.mem_reclaim.specs.Wanted.{Reclaiming, WhileWanted, progress}
+use Rattle.mem_reclaim.specs.Wanted.{WhileWanted, progress}
 use Rattle.mem_reclaim.specs.Moves.{FreesPages, FreesBySteps}
 use Rattle.mem_reclaim.specs.Units.{ScansList}
 use Rattle.mem_reclaim.specs.declared.passes.Pass.{Pass}
 use Rattle.mem_reclaim.specs.declared.passes.Pass.TheVariants.{First, Second, Third}
-use Rattle.mem_reclaim.specs.Passes.{AgesAndScans, NotesLowIf, PassesGroup, Reclaims, ReclaimsGroup, ReclaimsPass, TakesTurn, TakesTurnOf, is_first, is_last}
-use Rattle.mem_reclaim.specs.Passes.{BeginsItsTurn, AreInSubtree, turn_order, members_of, notes_spared, passes_of, rotated, spared_by, subtree_of}
+use Rattle.mem_reclaim.specs.Passes.{AgesAndScans, MakesPasses, NotesLowIf, PassesGroup, ReclaimsGroup, ReclaimsPass, TakesTurn, TakesTurnOf, is_first, is_last}
+use Rattle.mem_reclaim.specs.Passes.{AreInSubtree, members_of, notes_spared, passes_of, spared_by, subtree_of}
+use Rattle.mem_reclaim.specs.Shares.{TakesItsShare, part_of}
 use Rattle.mem_reclaim.specs.Passes.{turn_want, with_detail_if}
 use Rattle.mem_reclaim.specs.Staying.{AreMissedOrKept, Keeps, OnlyLeave, IsMissed, MissedAll, MissedOfGroup, MissedOrKept, UsageFalls}
 use Rattle.mem_reclaim.proofs.Grown.{hold_after, misses_after, parts_after}
-use Rattle.mem_reclaim.proofs.Members.{first_taken, members, no_members, part_members, same_members}
+use Rattle.mem_reclaim.proofs.Members.{first_taken, members, no_members, same_members}
 use Rattle.mem_reclaim.proofs.Wanting.{SoFar, so_far_none, so_far_more, so_far_done, so_far_enough}
-use Rattle.mem_reclaim.proofs.Moving.{moves_after_notes, moves_after_turn, moves_both, moves_none, moves_noted, moves_rest}
+use Rattle.mem_reclaim.proofs.Moving.{moves_after_notes, moves_both, moves_none, moves_noted, moves_rest}
 use Rattle.mem_reclaim.proofs.Rising.{rises_none}
-use Rattle.mem_reclaim.proofs.Keeping.{keeps_after_last, keeps_after_notes, keeps_both, keeps_none, keeps_noted, keeps_owners, missed_still, only_both}
+use Rattle.mem_reclaim.proofs.Keeping.{keeps_after_notes, keeps_both, keeps_none, keeps_noted, keeps_owners, missed_still, only_both}
 
 -- ---- a group's first pass
 
@@ -206,24 +209,12 @@ pub record TurnTaken (t : KnownTable) (pass : Pass) (target g want freed : ℕ) 
   pub leaves : is_first pass ≡ false → OnlyLeave m n
   pub tried : is_last pass m.ledger.settings ≡ true → freed < want → MissedOrKept target g m n
 
--- what is done after a turn began, as seen from before it
-after_turn : (t : KnownTable) (x n : KnownMachine) (g freed : ℕ) (Does : Reclaiming) → FreesBySteps t freed (with_turn x g) n Does
-    → FreesBySteps t freed x n (BeginsItsTurn g Does)
-after_turn t x n g freed Does leads = record {
-  steps = leads.steps;
-  does = leads.does;
-  moves = moves_after_turn t x n freed leads.steps (with_turn x g).last_turn leads.moves;
-}
-
-keeps_after_turn : (t : KnownTable) (x n : KnownMachine) (g : ℕ) → Keeps t (with_turn x g) n → Keeps t x n
-keeps_after_turn t x n g keeps = keeps_after_last t x n (with_turn x g).last_turn keeps
-
 -- the turn begins with the machine `x`, in which what protects the group may be noted
 module _ (t : KnownTable) (pass : Pass) (target g want of_min of_low usage spared wanted : ℕ) (m x : KnownMachine) (l : Ledger) (same : l ≡ m.ledger)
     (facts : AreGroups l.groups) (below : in_subtree m.ledger.groups target g ≡ true) (least : of_min ≡ effective min_key l target g)
     (low : of_low ≡ effective low_key l target g) (uses : usage ≡ current_of l g) (spares : spared ≡ spared_by pass of_min of_low)
     (wants : wanted ≡ turn_want want usage spared)
-    (begins : x ≡ with_detail_if (notes_spared pass usage want wanted) m (note.Spared g usage of_min of_low)) where
+    (begins : x ≡ with_detail_if (notes_spared pass (clean_pages m g) want wanted) m (note.Spared g usage of_min of_low)) where
   min_is : of_min ≡ effective min_key m.ledger target g
   min_is = least ∙ ap (λ (k : Ledger). effective min_key k target g) same
 
@@ -237,10 +228,10 @@ module _ (t : KnownTable) (pass : Pass) (target g want of_min of_low usage spare
   is = wants ∙ (λ i. turn_want want usage (spares i))
 
   notes_alone : x ≡ record m { notes = x.notes }
-  notes_alone = only_noted (notes_spared pass usage want wanted) m x (note.Spared g usage of_min of_low) begins
+  notes_alone = only_noted (notes_spared pass (clean_pages m g) want wanted) m x (note.Spared g usage of_min of_low) begins
 
-  begins_so : x ≡ with_detail_if (notes_spared pass usage want (turn_want want usage (spared_by pass of_min of_low))) m (note.Spared g usage of_min of_low)
-  begins_so = begins ∙ (λ i. with_detail_if (notes_spared pass usage want (is i)) m (note.Spared g usage of_min of_low))
+  begins_so : x ≡ with_detail_if (notes_spared pass (clean_pages m g) want (turn_want want usage (spared_by pass of_min of_low))) m (note.Spared g usage of_min of_low)
+  begins_so = begins ∙ (λ i. with_detail_if (notes_spared pass (clean_pages m g) want (is i)) m (note.Spared g usage of_min of_low))
 
   as_turn : (freed : ℕ) (steps : Run) (n : KnownMachine) → TakesTurnOf pass of_min of_low usage g want (progress freed m steps n)
       → TakesTurn pass target g want (progress freed m steps n)
@@ -269,8 +260,8 @@ module _ (t : KnownTable) (pass : Pass) (target g want of_min of_low usage spare
   wants_rest some = wants ∙ cond-false (spared == 0) want (min want (usage - spared)) (ne_eqb spared 0 some)
 
   -- nothing is wanted
-  pub turn_none : 0 < want → wanted ≡ 0 → TurnTaken t pass target g want 0 m x
-  turn_none some none =
+  pub turn_none : wanted ≡ 0 → TurnTaken t pass target g want 0 m x
+  turn_none none =
       let keeps : Keeps t m x = subst (Keeps t m) (sym notes_alone) (keeps_noted t m m x.notes (keeps_none t m)) in
       let uses_same = ap (λ (k : KnownMachine). current_of k.ledger g) notes_alone in
       record {
@@ -281,19 +272,19 @@ module _ (t : KnownTable) (pass : Pass) (target g want of_min of_low usage spare
         };
         keeps = keeps;
         usage = λ above inside. let e = ap (λ (k : KnownMachine). current_of k.ledger above) notes_alone in omega (arith, e);
-        few = omega (arith, some);
+        few = omega arith;
         leaves = λ off f h home. sym (ap (λ (k : KnownMachine). home_of k.links f) notes_alone) ∙ home;
         tried = λ last less. elim (cases_eq spared 0) [
-          | inl all ↦ let e = wants_all all in absurd (omega (arith, e, none, some))
-          | inr more ↦ let e = wants_rest more in kept x keeps last more (omega (arith, e, none, some, uses_same, usage_is))
+          | inl all ↦ let e = wants_all all in absurd (omega (arith, e, none, less))
+          | inr more ↦ let e = wants_rest more in kept x keeps last more (omega (arith, e, none, less, uses_same, usage_is))
         ];
       }
 
   -- the turn has begun
-  turn_begun : wanted ≢ 0 → (freed : ℕ) (n : KnownMachine) → FreesBySteps t freed x n (BeginsItsTurn g (ReclaimsGroup pass of_min of_low usage g wanted))
+  pub turn_some : wanted ≢ 0 → (freed : ℕ) (n : KnownMachine) → FreesBySteps t freed x n (ReclaimsGroup pass of_min of_low usage g wanted)
       → Keeps t x n → in_subtree m.ledger.groups g g ≡ true → UsageFalls g freed x n → freed < wanted + 1024
       → (is_first pass ≡ false → OnlyLeave x n) → (is_first pass ≡ false → freed < wanted → MissedOfGroup g x n) → TurnTaken t pass target g want freed m n
-  turn_begun some freed n leads keeps own falls few leaves missed =
+  turn_some some freed n leads keeps own falls few leaves missed =
       let still : Keeps t m n = keeps_after_notes t m n x.notes (subst (λ (k : KnownMachine). Keeps t k n) notes_alone keeps) in
       let fell : UsageFalls g freed m n = subst (λ (k : KnownMachine). UsageFalls g freed k n) notes_alone falls in
       record {
@@ -301,7 +292,7 @@ module _ (t : KnownTable) (pass : Pass) (target g want of_min of_low usage spare
           steps = leads.steps;
           does = as_turn freed leads.steps n (inr (
             omega (arith, is, some),
-            subst (λ (v : ℕ × KnownMachine). BeginsItsTurn g (ReclaimsGroup pass of_min of_low usage g v.0) (progress freed v.1 leads.steps n)) (λ i. (is i, begins_so i)) leads.does,
+            subst (λ (v : ℕ × KnownMachine). ReclaimsGroup pass of_min of_low usage g v.0 (progress freed v.1 leads.steps n)) (λ i. (is i, begins_so i)) leads.does,
           ));
           moves = moves_after_notes t m n freed leads.steps x.notes (subst (λ (k : KnownMachine). FreesPages t k freed leads.steps n) notes_alone leads.moves);
         };
@@ -326,17 +317,6 @@ module _ (t : KnownTable) (pass : Pass) (target g want of_min of_low usage spare
             ];
       }
 
-  pub turn_some : wanted ≢ 0 → (y : KnownMachine) → y ≡ with_turn x g → (freed : ℕ) (n : KnownMachine)
-      → FreesBySteps t freed y n (ReclaimsGroup pass of_min of_low usage g wanted)
-      → Keeps t y n → in_subtree m.ledger.groups g g ≡ true → UsageFalls g freed y n → freed < wanted + 1024
-      → (is_first pass ≡ false → OnlyLeave y n) → (is_first pass ≡ false → freed < wanted → MissedOfGroup g y n) → TurnTaken t pass target g want freed m n
-  turn_some some y turned freed n leads' keeps' own falls' few leaves' missed' =
-      turn_begun some freed n (after_turn t x n g freed (ReclaimsGroup pass of_min of_low usage g wanted)
-      (subst (λ (k : KnownMachine). FreesBySteps t freed k n (ReclaimsGroup pass of_min of_low usage g wanted)) turned leads'))
-      (keeps_after_turn t x n g (subst (λ (k : KnownMachine). Keeps t k n) turned keeps')) own (subst (λ (k : KnownMachine). UsageFalls g freed k n) turned falls') few
-      (λ off. subst (λ (k : KnownMachine). OnlyLeave k n) turned (leaves' off))
-      (λ off fewer. subst (λ (k : KnownMachine). MissedOfGroup g k n) turned (missed' off fewer))
-
 -- what was tried stays tried, also counted from before
 tried_still : (t : KnownTable) (target other : ℕ) (a b c d : KnownMachine) → Keeps t a b → Keeps t c d → OnlyLeave c d → MissedOrKept target other b c → MissedOrKept target other a d
 tried_still t target other a b c d first last only (inl missed) = inl (λ f list. missed_still t a b c d first last only f (record { owner = other; list = list }) (missed f list))
@@ -344,9 +324,23 @@ tried_still t target other a b c d first last only (inr kept) = inr (kept_still 
 
 -- ---- a pass
 
+-- a turn of the pass wants at most what is wanted, and all of it if the pass is the last
+part_few : (shares : Option (ℕ → ℕ)) (group want : ℕ) → part_of shares group want ≤ want
+part_few None group want = omega arith
+part_few (Some share) group want = omega arith
+
+part_all : (shares : Option (ℕ → ℕ)) (pass : Pass) (settings : List ReclaimSettings) (group want : ℕ) → (shares ≢ None → is_first pass ≡ true) → is_last pass settings ≡ true
+    → part_of shares group want ≡ want
+part_all None pass settings group want first last = refl
+part_all (Some share) pass settings group want first last = absurd (false≢true (sym (last_not_first pass settings last) ∙ first (λ none. none-some share (sym none))))
+
+pub shares_first : {A : Type 0} (f : A → ℕ → ℕ) (o : Option A) (first : Bool) → (o ≢ None → first ≡ true) → option_map f o ≢ None → first ≡ true
+shares_first f None first given some = absurd (some refl)
+shares_first f (Some x) first given some = given (λ none. none-some x (sym none))
+
 -- the groups before those that are left had their turn; `all` are those of the pass
-pub record PassSoFar (t : KnownTable) (pass : Pass) (g want : ℕ) (m : KnownMachine) (all rest freed : ℕ) (now : KnownMachine) : Type 0 where
-  pub so_far : SoFar t (TakesTurn pass g) (members_of all) want m (members rest 0 64) freed now
+pub record PassSoFar (t : KnownTable) (shares : Option (ℕ → ℕ)) (pass : Pass) (g want : ℕ) (m : KnownMachine) (all rest freed : ℕ) (now : KnownMachine) : Type 0 where
+  pub so_far : SoFar t (TakesItsShare shares pass g) (members_of all) want m (members rest 0 64) freed now
   pub left : (k : ℕ) → k < 64 → bit_at rest k ≡ 1 → in_subtree m.ledger.groups g k ≡ true
   pub keeps : Keeps t m now
   pub usage : current_of now.ledger g + freed ≡ current_of m.ledger g
@@ -355,9 +349,9 @@ pub record PassSoFar (t : KnownTable) (pass : Pass) (g want : ℕ) (m : KnownMac
   pub tried : is_last pass m.ledger.settings ≡ true → freed < want → (other : ℕ) → other < 64 → bit_at all other ≡ 1 → bit_at rest other ≢ 1
       → MissedOrKept g other m now
 
-pub pass_none : (t : KnownTable) (pass : Pass) (g want : ℕ) (m : KnownMachine) (groups : ℕ) → AreInSubtree m.ledger.groups g groups → PassSoFar t pass g want m groups groups 0 m
-pass_none t pass g want m groups inside = record {
-  so_far = so_far_none t (TakesTurn pass g) (members_of groups) want m;
+pub pass_none : (t : KnownTable) (shares : Option (ℕ → ℕ)) (pass : Pass) (g want : ℕ) (m : KnownMachine) (groups : ℕ) → AreInSubtree m.ledger.groups g groups → PassSoFar t shares pass g want m groups groups 0 m
+pass_none t shares pass g want m groups inside = record {
+  so_far = so_far_none t (TakesItsShare shares pass g) (members_of groups) want m;
   left = inside;
   keeps = keeps_none t m;
   usage = omega arith;
@@ -366,138 +360,81 @@ pass_none t pass g want m groups inside = record {
   tried = λ last less other low there away. absurd (away there);
 }
 
-pub record PassEnds (t : KnownTable) (pass : Pass) (g want : ℕ) (m : KnownMachine) (all freed : ℕ) (now : KnownMachine) : Type 0 where
-  pub passes : FreesBySteps t freed m now (WhileWanted (TakesTurn pass g) (members_of all) want)
+pub record PassEnds (t : KnownTable) (shares : Option (ℕ → ℕ)) (pass : Pass) (g want : ℕ) (m : KnownMachine) (all freed : ℕ) (now : KnownMachine) : Type 0 where
+  pub passes : FreesBySteps t freed m now (WhileWanted (TakesItsShare shares pass g) (members_of all) want)
   pub tried : is_last pass m.ledger.settings ≡ true → freed < want → AreMissedOrKept g all m now
 
-module _ (t : KnownTable) (pass : Pass) (g want : ℕ) (m : KnownMachine) (all rest freed : ℕ) (now : KnownMachine) (s : PassSoFar t pass g want m all rest freed now) where
+module _ (t : KnownTable) (shares : Option (ℕ → ℕ)) (pass : Pass) (g want : ℕ) (m : KnownMachine) (all rest freed : ℕ) (now : KnownMachine)
+    (s : PassSoFar t shares pass g want m all rest freed now) where
   -- the next group is in the subtree
   pub turn_inside : (turn k : ℕ) → turn ≡ k → k < 64 → bit_at rest k ≡ 1 → in_subtree now.ledger.groups g turn ≡ true
   turn_inside turn k at low here = (λ i. in_subtree (s.keeps.groups i) g (at i)) ∙ s.left k low here
 
-  pub pass_more : freed < want → (turn k : ℕ) → turn ≡ k → (k < 64) × (bit_at rest k ≡ 1) × ((i : ℕ) → i < k → bit_at rest i ≡ 0)
+  pub pass_more : (shares ≢ None → is_first pass ≡ true) → freed < want → (turn k : ℕ) → turn ≡ k → (k < 64) × (bit_at rest k ≡ 1) × ((i : ℕ) → i < k → bit_at rest i ≡ 0)
       → (left : ℕ) → (bit_at left k ≡ 0) × (left < rest) × ((i : ℕ) → i < 64 → i ≢ k → bit_at left i ≡ bit_at rest i)
-      → (some : ℕ) (then : KnownMachine) → FreesBySteps t some now then (TakesTurn pass g turn (want - freed))
-      → Keeps t now then → UsageFalls turn some now then → some < want - freed + 1024 → (is_first pass ≡ false → OnlyLeave now then)
-      → (is_last pass now.ledger.settings ≡ true → some < want - freed → MissedOrKept g turn now then) → PassSoFar t pass g want m all left (freed + some) then
-  pass_more wanted turn k at found left taken some then leads keeps usage few leaves tried =
+      → (part some : ℕ) (then : KnownMachine) → part ≡ part_of shares turn (want - freed) → FreesBySteps t some now then (TakesTurn pass g turn part)
+      → Keeps t now then → UsageFalls turn some now then → some < part + 1024 → (is_first pass ≡ false → OnlyLeave now then)
+      → (is_last pass now.ledger.settings ≡ true → some < part → MissedOrKept g turn now then) → PassSoFar t shares pass g want m all left (freed + some) then
+  pass_more first wanted turn k at found left taken part some then part_is leads keeps usage few leaves tried =
       let inside = turn_inside turn k at found.0 found.1 in
       record {
-        so_far = so_far_more t (TakesTurn pass g) (members_of all) want m turn (members left 0 64) freed now
-            (subst (λ (l : List ℕ). SoFar t (TakesTurn pass g) (members_of all) want m l freed now)
-            (first_taken rest left k 0 64 (omega arith) found.0 (omega arith) found.1 found.2 taken.0 taken.2 ∙ ap (λ (x : ℕ). x ∷ members left 0 64) (sym at)) s.so_far) wanted some then leads;
+        so_far = so_far_more t (TakesItsShare shares pass g) (members_of all) want m turn (members left 0 64) freed now
+            (subst (λ (l : List ℕ). SoFar t (TakesItsShare shares pass g) (members_of all) want m l freed now)
+            (first_taken rest left k 0 64 (omega arith) found.0 (omega arith) found.1 found.2 taken.0 taken.2 ∙ ap (λ (x : ℕ). x ∷ members left 0 64) (sym at)) s.so_far) wanted some then (subst (λ (x : ℕ). FreesBySteps t some now then (TakesTurn pass g turn x)) part_is leads);
         left = λ i low one. elim (cases_eq i k) [
           | inl e ↦ absurd (let zero_bit = taken.0 in let one' : bit_at left k ≡ 1 = ap (bit_at left) (sym e) ∙ one in omega (arith, zero_bit, one'))
           | inr ne ↦ s.left i low (sym (taken.2 i low ne) ∙ one)
         ];
         keeps = keeps_both t m now then s.keeps keeps;
         usage = let a = s.usage in let b = usage g inside in omega (arith, a, b);
-        few = omega (arith, wanted, few);
+        few = let most = part_few shares turn (want - freed) in omega (arith, wanted, few, part_is, most);
         leaves = λ off. only_both m now then (s.leaves off) (leaves off);
         tried = λ last less other low there away. elim (cases_eq other k) [
           | inl e ↦
               tried_still t g other m now then then s.keeps (keeps_none t then) (λ x y home. home)
-              (subst (λ (x : ℕ). MissedOrKept g x now then) (at ∙ sym e) (tried (ap (is_last pass) s.keeps.settings ∙ last) (omega (arith, less, wanted))))
+              (subst (λ (x : ℕ). MissedOrKept g x now then) (at ∙ sym e) (tried (ap (is_last pass) s.keeps.settings ∙ last)
+              (let all_of_it = part_all shares pass m.ledger.settings turn (want - freed) first last in omega (arith, less, wanted, part_is, all_of_it))))
           | inr ne ↦
               tried_still t g other m m now then (keeps_none t m) keeps (leaves (last_not_first pass m.ledger.settings last))
               (s.tried last (omega (arith, less)) other low there (λ one. away (taken.2 other low ne ∙ one)))
         ];
       }
 
-  pub pass_enough : want ≤ freed → PassEnds t pass g want m all freed now
+  pub pass_enough : want ≤ freed → PassEnds t shares pass g want m all freed now
   pass_enough enough = record {
-    passes = so_far_enough t (TakesTurn pass g) (members_of all) want m (members rest 0 64) freed now s.so_far enough;
+    passes = so_far_enough t (TakesItsShare shares pass g) (members_of all) want m (members rest 0 64) freed now s.so_far enough;
     tried = λ last less. absurd (omega (arith, less, enough));
   }
 
-  pub pass_done : rest ≡ 0 → PassEnds t pass g want m all freed now
+  pub pass_done : rest ≡ 0 → PassEnds t shares pass g want m all freed now
   pass_done all_taken =
       let none : (i : ℕ) → bit_at rest i ≡ 0 = λ i. ap (λ (x : ℕ). bit_at x i) all_taken ∙ bit_at-zero i in
       record {
-        passes = so_far_done t (TakesTurn pass g) (members_of all) want m freed now
-            (subst (λ (l : List ℕ). SoFar t (TakesTurn pass g) (members_of all) want m l freed now) (no_members rest 0 64 none) s.so_far);
+        passes = so_far_done t (TakesItsShare shares pass g) (members_of all) want m freed now
+            (subst (λ (l : List ℕ). SoFar t (TakesItsShare shares pass g) (members_of all) want m l freed now) (no_members rest 0 64 none) s.so_far);
         tried = λ last less other low there. s.tried last less other low there (λ one. let zero_bit = none other in absurd (omega (arith, one, zero_bit)));
       }
 
--- ---- the order of turns
+-- ---- the groups of a pass
 
--- by ascending number
 members_subtree : (groups : List Group) (g all : ℕ) → IsSubtree groups g all → members_of all ≡ subtree_of groups g
 unfolding subtree_of
 members_subtree groups g all are = sym (same_members all (in_subtree groups g) 0 64 (λ k from low. are k low))
 
-cond_one : (b : Bool) (x : ℕ) → cond b x 0 ≡ 1 → (x ≡ 1) × (b ≡ true)
-cond_one true x is = (is, refl)
-cond_one false x is = absurd (omega (arith, is))
-
-cond_two : (b : Bool) (x : ℕ) → cond b 0 x ≡ 1 → (x ≡ 1) × (not b ≡ true)
-cond_two true x is = absurd (omega (arith, is))
-cond_two false x is = (is, refl)
-
-both_true : (a b : Bool) → a ≡ true → b ≡ true → (a && b) ≡ true
-both_true a b one two = ap (λ (x : Bool). x && b) one ∙ two
-
--- after the last turn, and then round
-module _ (groups : List Group) (g all last above others : ℕ) (are : IsSubtree groups g all)
-    (above_are : (i : ℕ) → i < 64 → bit_at above i ≡ cond (nat_lt last i) (bit_at all i) 0)
-    (others_are : (i : ℕ) → i < 64 → bit_at others i ≡ cond (nat_lt last i) 0 (bit_at all i)) where
-  pub above_inside : AreInSubtree groups g above
-  above_inside i low one = (are i low).0 (cond_one (nat_lt last i) (bit_at all i) (sym (above_are i low) ∙ one)).0
-
-  pub others_inside : AreInSubtree groups g others
-  others_inside i low one = (are i low).0 (cond_two (nat_lt last i) (bit_at all i) (sym (others_are i low) ∙ one)).0
-
-  above_is : filter (nat_lt last) (subtree_of groups g) ≡ members_of above
-  unfolding subtree_of
-  above_is = part_members above (in_subtree groups g) (nat_lt last) 0 64 (λ i from low. (above_of i low, above_from i low))
-    where
-      above_of : (i : ℕ) → i < 64 → bit_at above i ≡ 1 → (in_subtree groups g i && nat_lt last i) ≡ true
-      above_of i low one =
-          let is = cond_one (nat_lt last i) (bit_at all i) (sym (above_are i low) ∙ one) in
-          both_true (in_subtree groups g i) (nat_lt last i) ((are i low).0 is.0) is.1
-
-      above_from : (i : ℕ) → i < 64 → (in_subtree groups g i && nat_lt last i) ≡ true → bit_at above i ≡ 1
-      above_from i low both =
-          let parts = and_parts (in_subtree groups g i) (nat_lt last i) both in
-          above_are i low ∙ cond-true (nat_lt last i) (bit_at all i) 0 parts.1 ∙ (are i low).1 parts.0
-
-  others_is : filter (λ i. not (nat_lt last i)) (subtree_of groups g) ≡ members_of others
-  unfolding subtree_of
-  others_is = part_members others (in_subtree groups g) (λ i. not (nat_lt last i)) 0 64 (λ i from low. (others_of i low, others_from i low))
-    where
-      others_of : (i : ℕ) → i < 64 → bit_at others i ≡ 1 → (in_subtree groups g i && not (nat_lt last i)) ≡ true
-      others_of i low one =
-          let is = cond_two (nat_lt last i) (bit_at all i) (sym (others_are i low) ∙ one) in
-          both_true (in_subtree groups g i) (not (nat_lt last i)) ((are i low).0 is.0) is.1
-
-      others_from : (i : ℕ) → i < 64 → (in_subtree groups g i && not (nat_lt last i)) ≡ true → bit_at others i ≡ 1
-      others_from i low both =
-          let parts = and_parts (in_subtree groups g i) (not (nat_lt last i)) both in
-          others_are i low ∙ cond-false (nat_lt last i) 0 (bit_at all i) (not-true (nat_lt last i) parts.1) ∙ (are i low).1 parts.0
-
-  pub parts_rotated : members_of above ++ members_of others ≡ rotated last (subtree_of groups g)
-  parts_rotated = λ i. sym above_is i ++ sym others_is i
-
--- a pass without turns that go round
-pub pass_ascends : (t : KnownTable) (pass : Pass) (g want freed all : ℕ) (m n : KnownMachine) → m.last_turn ≡ None → IsSubtree m.ledger.groups g all
-    → FreesBySteps t freed m n (WhileWanted (TakesTurn pass g) (members_of all) want) → FreesBySteps t freed m n (ReclaimsPass g pass want)
-pass_ascends t pass g want freed all m n none are leads = record {
+-- the members of the set are those of the subtree
+pub of_subtree : (t : KnownTable) (shares : Option (ℕ → ℕ)) (pass : Pass) (g want freed all : ℕ) (m n : KnownMachine) → IsSubtree m.ledger.groups g all
+    → FreesBySteps t freed m n (WhileWanted (TakesItsShare shares pass g) (members_of all) want)
+    → FreesBySteps t freed m n (WhileWanted (TakesItsShare shares pass g) (subtree_of m.ledger.groups g) want)
+of_subtree t shares pass g want freed all m n are leads = record {
   steps = leads.steps;
-  does = subst (λ (l : List ℕ). WhileWanted (TakesTurn pass g) l want (progress freed m leads.steps n))
-      (members_subtree m.ledger.groups g all are ∙ ap (λ (o : Option ℕ). turn_order o (subtree_of m.ledger.groups g)) (sym none)) leads.does;
+  does = subst (λ (l : List ℕ). WhileWanted (TakesItsShare shares pass g) l want (progress freed m leads.steps n)) (members_subtree m.ledger.groups g all are) leads.does;
   moves = leads.moves;
 }
 
--- a pass that goes round
-pub pass_rotates : (t : KnownTable) (pass : Pass) (g want freed last : ℕ) (m n : KnownMachine) (turns : List ℕ) → m.last_turn ≡ Some last
-    → turns ≡ rotated last (subtree_of m.ledger.groups g) → FreesBySteps t freed m n (WhileWanted (TakesTurn pass g) turns want)
-    → FreesBySteps t freed m n (ReclaimsPass g pass want)
-pass_rotates t pass g want freed last m n turns is are leads = record {
-  steps = leads.steps;
-  does = subst (λ (l : List ℕ). WhileWanted (TakesTurn pass g) l want (progress freed m leads.steps n))
-      (are ∙ ap (λ (o : Option ℕ). turn_order o (subtree_of m.ledger.groups g)) (sym is)) leads.does;
-  moves = leads.moves;
-}
+-- without shares it is a pass of the reclaim
+pub as_pass : (t : KnownTable) (pass : Pass) (g want freed : ℕ) (m n : KnownMachine)
+    → FreesBySteps t freed m n (WhileWanted (TakesItsShare None pass g) (subtree_of m.ledger.groups g) want) → FreesBySteps t freed m n (ReclaimsPass g pass want)
+as_pass t pass g want freed m n leads = record { steps = leads.steps; does = leads.does; moves = leads.moves }
 
 -- the bit of a group of the subtree
 bit_there : (t : KnownTable) (g all other : ℕ) (m n : KnownMachine) → AreGroups m.ledger.groups → IsSubtree m.ledger.groups g all → Keeps t m n
@@ -514,30 +451,16 @@ all_tried t g all m n facts are keeps tried other inside =
     let there = bit_there t g all other m n facts are keeps inside in
     tried other there.0 there.1
 
-pub both_tried : (t : KnownTable) (g all last above others : ℕ) (m k n : KnownMachine) → AreGroups m.ledger.groups → IsSubtree m.ledger.groups g all
-    → ((i : ℕ) → i < 64 → bit_at above i ≡ cond (nat_lt last i) (bit_at all i) 0) → ((i : ℕ) → i < 64 → bit_at others i ≡ cond (nat_lt last i) 0 (bit_at all i))
-    → Keeps t m k → Keeps t k n → OnlyLeave k n → AreMissedOrKept g above m k → AreMissedOrKept g others k n → MissedAll g m n
-both_tried t g all last above others m k n facts are above_are others_are first second only early late other inside =
-    let there = bit_there t g all other m n facts are (keeps_both t m k n first second) inside in
-    elim (cases_Bool (nat_lt last other)) [
-      | inl beyond ↦
-          let one = above_are other there.0 ∙ cond-true (nat_lt last other) (bit_at all other) 0 beyond ∙ there.1 in
-          tried_still t g other m m k n (keeps_none t m) second only (early other there.0 one)
-      | inr within ↦
-          let one = others_are other there.0 ∙ cond-false (nat_lt last other) 0 (bit_at all other) within ∙ there.1 in
-          tried_still t g other m k n n first (keeps_none t n) (λ x y home. home) (late other there.0 one)
-    ]
-
 -- ---- all passes
 
 -- what the last pass missed was missed in the whole
 pub all_missed : (t : KnownTable) (g : ℕ) (m k n : KnownMachine) → Keeps t m k → MissedAll g k n → MissedAll g m n
 all_missed t g m k n first missed other inside = tried_still t g other m k n n first (keeps_none t n) (λ x y home. home) (missed other inside)
 
--- these passes are the reclaim's
-pub as_reclaim : (t : KnownTable) (g want freed : ℕ) (m n : KnownMachine) (passes : List Pass) → passes_of m.ledger.settings ≡ passes
-    → FreesBySteps t freed m n (WhileWanted (ReclaimsPass g) passes want) → FreesBySteps t freed m n (Reclaims g want)
-as_reclaim t g want freed m n passes are leads = record {
+-- these passes are those of a reclaim
+pub as_passes : (t : KnownTable) (g want freed : ℕ) (m n : KnownMachine) (passes : List Pass) → passes_of m.ledger.settings ≡ passes
+    → FreesBySteps t freed m n (WhileWanted (ReclaimsPass g) passes want) → FreesBySteps t freed m n (MakesPasses g want)
+as_passes t g want freed m n passes are leads = record {
   steps = leads.steps;
   does = subst (λ (l : List Pass). WhileWanted (ReclaimsPass g) l want (progress freed m leads.steps n)) (sym are) leads.does;
   moves = leads.moves;

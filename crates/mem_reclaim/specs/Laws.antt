@@ -2,6 +2,7 @@
 -- is killed as a whole, or no group of it is.
 use Rattle.std.specs.Prelude.{◌≡◌, ℕ, ◌+◌, ◌-◌, ◌^◌, ◌<◌, ◌≤◌, ◌==◌, ◌⊎◌, true, false, Option, Some, List, Contains}
 use Rattle.std.specs.List.{count_by}
+use Rattle.group_tree.specs.declared.group.Group.{Group}
 use Rattle.group_tree.specs.{AreGroups, in_subtree, is_oom_group, max_count}
 use Rattle.group_charge.specs.Charges.{current_of}
 use Rattle.group_protection.specs.Protections.{IsKeptByMin, effective, low_key, min_key}
@@ -13,12 +14,14 @@ use Rattle.group_charge.specs.declared.note.Note.TheVariants as note
 use Rattle.boot_words.specs.Tables.{KnownTable}
 use Rattle.mem_machine.specs.declared.frame_state.FrameState.TheVariants.{Head}
 use Rattle.mem_machine.specs.FrameStates.{frame_state_at}
-use Rattle.mem_machine.specs.Machines.{IsConsistent, KnownMachine, home_of, with_note}
+use Rattle.mem_machine.specs.Machines.{KnownMachine, home_of, with_note}
 use Rattle.mem_reclaim.specs.declared.sets.Killed.{Killed}
 use Rattle.mem_reclaim.specs.Killing.{IsKilledBy, kept_units}
 use Rattle.mem_reclaim.specs.Moves.{FreesPages, all_missed_in, missed_in, returned_in}
 use Rattle.mem_reclaim.specs.declared.passes.Pass.{Pass}
-use Rattle.mem_reclaim.specs.Passes.{TakesTurn, spared_by, turn_order, turn_want}
+use Rattle.mem_reclaim.specs.declared.passes.Pass.TheVariants.{First}
+use Rattle.mem_reclaim.specs.Passes.{TakesTurn, spared_by, subtree_of, turn_want}
+use Rattle.mem_reclaim.specs.Shares.{TakesItsShare}
 use Rattle.mem_reclaim.specs.Rounds.{ReclaimsRound, pages_missing, pages_wanted}
 use Rattle.mem_reclaim.specs.Sets.{IsKilledRoot, kill_set}
 use Rattle.mem_reclaim.specs.Staying.{MissedAll}
@@ -136,17 +139,23 @@ LoneKillsAreNotedAsMade =
     killed.killed_root ≡ false
     → after.counts.last_puts < max_count → NotesKill limited killed.victim before kill.steps after
 
--- each group of a pass has as many turns as by ascending number
+-- each group of the subtree has one turn in each pass
 abbrev pub TurnsLeaveOutNoGroup : Type 0
 TurnsLeaveOutNoGroup =
-    (last : Option ℕ) (groups : List ℕ) (group : ℕ)
-    → count_by (λ number. number == group) (turn_order last groups) ≡ count_by (λ number. number == group) groups
+    (groups : List Group) (target group : ℕ) → AreGroups groups → in_subtree groups target group ≡ true
+    → count_by (λ number. number == group) (subtree_of groups target) ≡ 1
 
--- the turns of a pass come by ascending number, unless the boot chose that they go round
-abbrev pub TurnsAscendUnlessFair : Type 0
-TurnsAscendUnlessFair =
-    (table : KnownTable) (machine : KnownMachine) (groups : List ℕ) → IsConsistent table machine
-    → table.choices.is_fair ≡ false → turn_order machine.last_turn groups ≡ groups
+-- in the pass of shares the turn of a group without a share changes nothing
+abbrev pub GroupsWithoutShareHaveNoTurn : Type 0
+GroupsWithoutShareHaveNoTurn =
+    (share : ℕ → ℕ) (target group want : ℕ) (done : Progress) → TakesItsShare (Some share) First target group want done
+    → share group ≡ 0 → FreesNothing done
+
+-- in the pass of shares a turn frees fewer pages than the group's share and the largest unit together
+abbrev pub TurnsKeepToTheirShare : Type 0
+TurnsKeepToTheirShare =
+    (share : ℕ → ℕ) (target group want most : ℕ) (done : Progress) → 1 ≤ most → UnitsHaveAtMost most done.before
+    → TakesItsShare (Some share) First target group want done → done.freed < share group + most
 
 -- a round that has to want at least one page wants just the pages that are missing
 abbrev pub BatchesOfOneWantWhatIsMissing : Type 0

@@ -2,6 +2,7 @@ pub mod Wanted
 pub mod Moves
 pub mod Units
 pub mod Passes
+pub mod Shares
 pub mod Rounds
 pub mod Staying
 pub mod Victim
@@ -14,7 +15,8 @@ pub use Rattle.mem_reclaim.specs.Wanted.{AfterNote, FreesNothing, Reclaiming, Wh
 pub use Rattle.mem_reclaim.specs.Moves.{CountsMisses, FreesBySteps, FreesPages, Rises, all_missed_in, has_kill, is_any_miss, is_kill, is_return}
 pub use Rattle.mem_reclaim.specs.Moves.{killed_by, kills_in, missed_in, misses_of, pages_freed_by, pages_returned, returned_in}
 pub use Rattle.mem_reclaim.specs.Units.{ScansList, TriesReclaim, TriesReclaimAs}
-pub use Rattle.mem_reclaim.specs.Passes.{AgesAndScans, PassesGroup, Reclaims, ReclaimsPass}
+pub use Rattle.mem_reclaim.specs.Passes.{AgesAndScans, MakesPasses, PassesGroup, ReclaimsPass, subtree_of}
+pub use Rattle.mem_reclaim.specs.Shares.{MakesAllPasses, Reclaims, ReclaimsShares, TakesItsShare, may_give, part_of, share_in_reclaim, shares_by}
 pub use Rattle.mem_reclaim.specs.Rounds.{ReclaimsAmount, ReclaimsPages, ReclaimsRound, ReclaimsRounds, max_rounds, pages_missing, pages_wanted}
 pub use Rattle.mem_reclaim.specs.Rounds.{round_note, at_least}
 pub use Rattle.mem_reclaim.specs.Staying.{IsDirtyUnit, IsMissed, Keeps, MissedAll, MissedOfGroup, OnlyLeave, UsageFalls}

@@ -1,5 +1,5 @@
--- Reclaim in passes over the groups of a subtree, by ascending number or in turn.
-use Rattle.std.specs.Prelude.{◌≡◌, ℕ, ◌-◌, ◌<◌, ◌≤◌, ◌==◌, ◌&&◌, ◌⊎◌, Bool, true, false, Option, Some, None, not, min, max, nat_lt, if◌then◌else◌}
+-- Reclaim in passes over the groups of a subtree, by ascending number.
+use Rattle.std.specs.Prelude.{◌≡◌, ℕ, ◌-◌, ◌<◌, ◌≤◌, ◌==◌, ◌&&◌, ◌⊎◌, Bool, true, false, not, min, max, nat_lt, if◌then◌else◌}
 use Rattle.std.specs.Prelude.{List, [], ◌∷◌, ◌++◌, filter}
 use Rattle.std.specs.Int.{bit_at}
 use Rattle.std.specs.List.{range_with_len}
@@ -14,7 +14,8 @@ use Rattle.group_protection.specs.Protections.{effective, low_key, min_key}
 use Rattle.lru_lists.specs.declared.record.LruList.TheVariants.{Inactive, Active}
 use Rattle.step_rules.specs.declared.step.NoteKey.TheVariants as key
 use Rattle.step_rules.specs.After.{Run}
-use Rattle.mem_machine.specs.Machines.{KnownMachine, with_detail, with_run, with_turn}
+use Rattle.mem_machine.specs.Machines.{KnownMachine, with_detail, with_run}
+use Rattle.mem_machine.specs.Clean.{clean_pages}
 use Rattle.mem_machine.specs.Noted.{KnownRun}
 use Rattle.mem_machine.specs.Ageing.{AgesGroup}
 use Rattle.mem_machine.specs.Steps.{note_steps}
@@ -79,29 +80,26 @@ spared_by Third of_min of_low = of_min
 abbrev pub turn_want : (want usage spared : ℕ) → ℕ
 turn_want want usage spared = if spared == 0 then want else min want (usage - spared)
 
--- the first pass notes if it wants fewer pages of a group than are wanted, unless the group has none
-abbrev pub notes_spared : Pass → (usage want wanted : ℕ) → Bool
-notes_spared pass usage want wanted = is_first pass && nat_lt wanted want && nat_lt 0 usage
+-- The first pass notes if it wants fewer pages of a group than are wanted, and fewer than its clean ones. So protection
+-- keeps clean pages from it.
+abbrev pub notes_spared : Pass → (clean want wanted : ℕ) → Bool
+notes_spared pass clean want wanted = is_first pass && nat_lt wanted want && nat_lt wanted clean
 
 -- the machine with one detail more, if it is to be noted
 abbrev pub with_detail_if : Bool → KnownMachine → Note → KnownMachine
 with_detail_if is_noted machine note = if is_noted then with_detail machine note else machine
-
--- a turn of the group begins, and then `Does` holds
-abbrev pub BeginsItsTurn : (group : ℕ) → Reclaiming → Reclaiming
-BeginsItsTurn group Does done = Does (progress done.freed (with_turn done.before group) done.steps done.after)
 
 -- `does want`, unless no page is wanted
 abbrev pub IfWanted : (ℕ → Reclaiming) → ℕ → Reclaiming
 IfWanted does want done = ((want ≡ 0) × FreesNothing done) ⊎ ((1 ≤ want) × does want done)
 
 -- The turn of a group of this usage, of which memory.min and memory.low protect this much. If that cuts the turn of the
--- first pass short, a note says so before. The group has no turn if nothing is wanted of it; else its turn is the last.
+-- first pass short, a note says so before. The group has no turn if nothing is wanted of it.
 abbrev pub TakesTurnOf : Pass → (of_min of_low usage group want : ℕ) → Reclaiming
 TakesTurnOf pass of_min of_low usage group want done =
     let wanted = turn_want want usage (spared_by pass of_min of_low) in
-    IfWanted (λ some. BeginsItsTurn group (ReclaimsGroup pass of_min of_low usage group some)) wanted (progress done.freed
-    (with_detail_if (notes_spared pass usage want wanted) done.before (Spared group usage of_min of_low))
+    IfWanted (ReclaimsGroup pass of_min of_low usage group) wanted (progress done.freed
+    (with_detail_if (notes_spared pass (clean_pages done.before group) want wanted) done.before (Spared group usage of_min of_low))
     done.steps done.after)
 
 -- The turn of a group in a reclaim with this target. What protects the group is found when the turn begins.
@@ -125,21 +123,10 @@ abbrev pub AreInSubtree : List Group → (group word : ℕ) → Type 0
 AreInSubtree groups group word =
     (number : ℕ) → number < most_groups → bit_at word number ≡ 1 → in_subtree groups group number ≡ true
 
--- the numbers in the order in which they come if turns go round: those above the last one, and then the others
-abbrev pub rotated : (last : ℕ) → List ℕ → List ℕ
-rotated last numbers = filter (nat_lt last) numbers ++ filter (λ number. not (nat_lt last number)) numbers
-
--- the groups in the order of their turns, if this group had the last turn; None if turns don't go round
-abbrev pub turn_order : Option ℕ → List ℕ → List ℕ
-turn_order None groups = groups
-turn_order (Some last) groups = rotated last groups
-
--- One pass over the groups of the subtree, by ascending number. If turns go round, it begins after the group that had
--- the last turn when it begins.
+-- one pass over the groups of the subtree, by ascending number
 abbrev pub ReclaimsPass : (target : ℕ) → Pass → ℕ → Reclaiming
 ReclaimsPass target pass want done =
-    WhileWanted (TakesTurn pass target) (turn_order done.before.last_turn (subtree_of done.before.ledger.groups target))
-    want done
+    WhileWanted (TakesTurn pass target) (subtree_of done.before.ledger.groups target) want done
 
 -- the passes of a reclaim: the third only if some group of the tree has memory.low or memory.min
 abbrev pub passes_of : List ReclaimSettings → List Pass
@@ -151,9 +138,9 @@ is_last First settings = false
 is_last Second settings = not (are_protecting settings)
 is_last Third settings = true
 
--- a reclaim of this many pages from the subtree: each pass is made only if pages are still wanted
-abbrev pub Reclaims : (target want : ℕ) → Reclaiming
-Reclaims target want done = WhileWanted (ReclaimsPass target) (passes_of done.before.ledger.settings) want done
+-- these passes over the subtree: each is made only if pages are still wanted
+abbrev pub MakesPasses : (target want : ℕ) → Reclaiming
+MakesPasses target want done = WhileWanted (ReclaimsPass target) (passes_of done.before.ledger.settings) want done
 
 -- the pass that takes what memory.low protects
 abbrev pub third_pass : Pass

@@ -6,7 +6,7 @@ use Rattle.group_charge.specs.declared.note.Note.TheVariants.{Asked, Round}
 use Rattle.mem_machine.specs.Machines.{KnownMachine, with_note}
 use Rattle.mem_reclaim.specs.Moves.{Rises, all_missed_in, returned_in}
 use Rattle.mem_reclaim.specs.Wanted.{AfterNote, BothFree, FreesNothing, Progress, Reclaiming, progress}
-use Rattle.mem_reclaim.specs.Passes.{Reclaims}
+use Rattle.mem_reclaim.specs.Shares.{Reclaims}
 
 -- the greatest number of rounds of reclaim, before a limit or if no frame is free
 abbrev pub max_rounds : ℕ

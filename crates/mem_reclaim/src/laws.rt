@@ -1,10 +1,10 @@
 //! Laws of kills and of reclaim: what each function ensures holds of every victim and all groups that die with it, of
 //! every unit that was tried, and of every note.
 
-ghost use Rattle.mem_reclaim.specs.Laws.{BatchesOfOneWantWhatIsMissing, FlaggedGroupsDieWhole, LoneKillsAreNotedAsMade};
-ghost use Rattle.mem_reclaim.specs.Laws.{MissedUnitsWereTried};
+ghost use Rattle.mem_reclaim.specs.Laws.{BatchesOfOneWantWhatIsMissing, FlaggedGroupsDieWhole, GroupsWithoutShareHaveNoTurn};
+ghost use Rattle.mem_reclaim.specs.Laws.{LoneKillsAreNotedAsMade, MissedUnitsWereTried};
 ghost use Rattle.mem_reclaim.specs.Laws.{OnlyTheLivingDie, ProtectedGroupsHaveNoTurn, RoundsAreNotedAsMade};
-ghost use Rattle.mem_reclaim.specs.Laws.{TheVictimIsOne, TurnsAscendUnlessFair, TurnsFreeFewMore, TurnsLeaveOutNoGroup};
+ghost use Rattle.mem_reclaim.specs.Laws.{TheVictimIsOne, TurnsFreeFewMore, TurnsKeepToTheirShare, TurnsLeaveOutNoGroup};
 ghost use Rattle.mem_reclaim.specs.Laws.{TurnsOfFramesLeaveMin, VictimsDie};
 
 /// If a group in the subtree of the limited group has memory.oom.group on, it is killed as a whole, or no group of its
@@ -58,14 +58,19 @@ pub fn lone_kills_are_noted_as_made()
     ensures { LoneKillsAreNotedAsMade }
 {}
 
-/// Each pass goes over all groups of the subtree, whichever group had the last turn.
+/// Each pass, that of shares included, gives each group of the subtree one turn.
 pub fn turns_leave_out_no_group()
     ensures { TurnsLeaveOutNoGroup }
 {}
 
-/// Turns come by ascending number, unless the boot chose that they go round.
-pub fn turns_ascend_unless_fair()
-    ensures { TurnsAscendUnlessFair }
+/// In the pass of shares a group without a share isn't touched.
+pub fn groups_without_share_have_no_turn()
+    ensures { GroupsWithoutShareHaveNoTurn }
+{}
+
+/// In the pass of shares a turn frees fewer pages than the group's share and the largest unit together.
+pub fn turns_keep_to_their_share()
+    ensures { TurnsKeepToTheirShare }
 {}
 
 /// Rounds that have to want at least one page want just the pages that are missing.

@@ -14,6 +14,7 @@ mod reclaiming;
 mod rounds;
 mod scan;
 mod sets;
+mod shares;
 mod try_reclaim;
 mod victims;
 

@@ -1,16 +1,18 @@
-//! The passes over the groups of a subtree, by ascending number or in turn.
+//! The passes over the groups of a subtree, by ascending number.
 
-ghost use Rattle.std.specs.Prelude.{◌≡◌, ◌<◌, ◌+◌, ◌&&◌, true, false, nat_lt, IsTrue};
+ghost use Rattle.std.specs.Prelude.{◌≡◌, ◌<◌, ◌+◌, ◌≢◌, ◌&&◌, true, false, None, nat_lt, option_map, IsTrue};
 ghost use Rattle.group_tree.specs.Groups.{has_group, in_subtree};
 ghost use Rattle.group_charge.specs.Charges.{current_of};
 ghost use Rattle.group_charge.specs.declared.note.Note.TheVariants.{Spared};
 ghost use Rattle.boot_words.specs.Pasts.{IsHeld};
+ghost use Rattle.mem_machine.specs.Clean.{clean_pages};
 ghost use Rattle.mem_machine.specs.Subtrees.{IsSubtree};
 ghost use Rattle.mem_reclaim.specs.Moves.{FreesBySteps};
-ghost use Rattle.mem_reclaim.specs.Passes.{AreInSubtree, PassesGroup, ReclaimsGroup, ReclaimsPass, TakesTurn, is_first};
-ghost use Rattle.mem_reclaim.specs.Passes.{is_last, members_of};
+ghost use Rattle.mem_reclaim.specs.Passes.{PassesGroup, ReclaimsGroup, TakesTurn, is_first};
+ghost use Rattle.mem_reclaim.specs.Passes.{is_last, subtree_of};
+ghost use Rattle.mem_reclaim.specs.Shares.{TakesItsShare, part_of, shares_by};
 ghost use Rattle.mem_reclaim.specs.Passes.{notes_spared, spared_by, third_pass, turn_want, with_detail_if};
-ghost use Rattle.mem_reclaim.specs.Staying.{AreMissedOrKept, Keeps, MissedAll, MissedOfGroup, MissedOrKept, OnlyLeave};
+ghost use Rattle.mem_reclaim.specs.Staying.{Keeps, MissedAll, MissedOfGroup, MissedOrKept, OnlyLeave};
 ghost use Rattle.mem_reclaim.specs.Staying.{UsageFalls};
 ghost use Rattle.mem_reclaim.specs.Wanted.{WhileWanted};
 
@@ -18,6 +20,7 @@ use crate::scan::scan;
 use cpu_part::{BootName, Tables};
 use group_charge::note::Note;
 use group_protection::protecting::{Protection, protection_of};
+use group_protection::reclaim_shares::Shares;
 use group_tree::group::GroupId;
 use lru_lists::record::LruList;
 use mem_machine::{Machine, bit_set, prove_charges};
@@ -34,8 +37,8 @@ pub enum Pass {
     Third,
 }
 
-// How much of its usage the pass spares a group that is protected so.
-fn spared_by(pass: Pass, protection: Protection) -> u32
+/// How much of its usage the pass spares a group that is protected so.
+pub(crate) fn spared_by(pass: Pass, protection: Protection) -> u32
     ensures { result ≡ spared_by pass protection.min protection.low }
 {
     match pass {
@@ -175,11 +178,11 @@ fn reclaim_group<N: BootName>(
     }
 }
 
-// Whether this is the first pass, which wants fewer pages of a group than are wanted, though the group has some.
-fn notes_spared(pass: Pass, usage: u32, want: u64, wanted: u64) -> bool
-    ensures { result ≡ notes_spared pass usage want wanted }
+// Whether this is the first pass, which wants fewer pages of a group than are wanted, and fewer than its clean ones.
+fn notes_spared(pass: Pass, clean: u64, want: u64, wanted: u64) -> bool
+    ensures { result ≡ notes_spared pass clean want wanted }
 {
-    wanted < want && usage > 0 && matches!(pass, Pass::First)
+    wanted < want && wanted < clean && matches!(pass, Pass::First)
 }
 
 // Notes what protects the group, if the pass notes that.
@@ -192,10 +195,10 @@ fn note_spared<N: BootName>(
     usage: u32,
     protection: Protection,
 )
-    ensures { machine.new ≡ with_detail_if (notes_spared pass usage want wanted) machine.old
+    ensures { machine.new ≡ with_detail_if (notes_spared pass (clean_pages machine.old group) want wanted) machine.old
         (Spared group usage protection.min protection.low) }
 {
-    if notes_spared(pass, usage, want, wanted) {
+    if notes_spared(pass, machine.clean_pages(group), want, wanted) {
         let Protection { min, low } = protection;
         machine.note_detail(Note::Spared {
             group,
@@ -207,7 +210,6 @@ fn note_spared<N: BootName>(
 }
 
 // The turn of a group in a pass. What protects the group is found now, since earlier turns changed what its parents use.
-// If pages are wanted of it, its turn is the last.
 fn take_turn<N: BootName>(
     machine: &mut Machine<N>,
     tables: &Tables<N>,
@@ -218,7 +220,6 @@ fn take_turn<N: BootName>(
 ) -> u64
     requires there { IsTrue (has_group machine.old.ledger.groups group) }
     requires inside { in_subtree machine.old.ledger.groups target group ≡ true }
-    requires wanted { 0 < want }
     requires held { IsHeld N.table machine.old.run.past }
     ensures turn { FreesBySteps N.table result machine.old machine.new (TakesTurn pass target group want) }
     ensures keeps { Keeps N.table machine.old machine.new }
@@ -237,32 +238,44 @@ fn take_turn<N: BootName>(
     if wanted == 0 {
         return 0;
     }
-    machine.begin_turn(group);
     reclaim_group(machine, tables, group, wanted, pass, usage, protection)
 }
 
-// One pass over these groups of the subtree of `target`, by ascending number, as long as pages are wanted. Returns how
-// many pages were freed.
-fn pass_over<N: BootName>(
+// How many pages a turn of the group wants: all that are wanted, but no more than its share if there are shares.
+fn part_of(shares: Option<&Shares>, group: GroupId, want: u64) -> u64
+    ensures { result ≡ part_of (option_map (λ s. shares_by s.now) shares.entry) group want }
+{
+    match shares {
+        Some(shares) => shares.share(group).min(want),
+        None => want,
+    }
+}
+
+/// One pass over `groups`, those of the subtree of `target`, by ascending number, as long as pages are wanted. If there
+/// are shares, no turn wants more than that of its group. Returns how many pages were freed.
+pub(crate) fn reclaim_pass<N: BootName>(
     machine: &mut Machine<N>,
     tables: &Tables<N>,
     target: GroupId,
     groups: u64,
     want: u64,
     pass: Pass,
+    shares: Option<&Shares>,
 ) -> u64
     requires there { IsTrue (has_group machine.old.ledger.groups target) }
-    requires inside { AreInSubtree machine.old.ledger.groups target groups }
+    requires subtree { IsSubtree machine.old.ledger.groups target groups }
     requires held { IsHeld N.table machine.old.run.past }
+    requires shares { shares ≢ None → is_first pass ≡ true }
     ensures passes { FreesBySteps N.table result machine.old machine.new
-        (WhileWanted (TakesTurn pass target) (members_of groups) want) }
+        (WhileWanted (TakesItsShare (option_map (λ s. shares_by s.now) shares.entry) pass target)
+        (subtree_of machine.old.ledger.groups target) want) }
     ensures keeps { Keeps N.table machine.old machine.new }
     ensures usage { current_of machine.new.ledger target + result ≡ current_of machine.old.ledger target }
     ensures few { result < want + 1024 }
-    ensures leaves { is_first pass ≡ false → OnlyLeave machine.old machine.new }
     ensures tried { is_last pass machine.old.ledger.settings ≡ true → result < want
-        → AreMissedOrKept target groups machine.old machine.new }
+        → MissedAll target machine.old machine.new }
 {
+    prove_charges(machine.charges());
     machine.prove_usage(target); // At most this many pages are freed.
     let mut rest = groups;
     let mut freed = 0;
@@ -273,40 +286,8 @@ fn pass_over<N: BootName>(
         let Some(turn) = GroupId::of(number) else {
             unreachable!()
         };
-        freed += take_turn(machine, tables, target, turn, want - freed, pass);
+        let part = part_of(shares, turn, want - freed);
+        freed += take_turn(machine, tables, target, turn, part, pass);
     }
     freed
-}
-
-/// One pass over `groups`, those of the subtree of `target`, as long as pages are wanted: by ascending number or, if
-/// turns go round, from the group on that comes after the last one that had a turn. Returns how many pages were freed.
-pub(crate) fn reclaim_pass<N: BootName>(
-    machine: &mut Machine<N>,
-    tables: &Tables<N>,
-    target: GroupId,
-    groups: u64,
-    want: u64,
-    pass: Pass,
-) -> u64
-    requires there { IsTrue (has_group machine.old.ledger.groups target) }
-    requires subtree { IsSubtree machine.old.ledger.groups target groups }
-    requires held { IsHeld N.table machine.old.run.past }
-    ensures passes { FreesBySteps N.table result machine.old machine.new (ReclaimsPass target pass want) }
-    ensures keeps { Keeps N.table machine.old machine.new }
-    ensures usage { current_of machine.new.ledger target + result ≡ current_of machine.old.ledger target }
-    ensures few { result < want + 1024 }
-    ensures tried { is_last pass machine.old.ledger.settings ≡ true → result < want
-        → MissedAll target machine.old machine.new }
-{
-    prove_charges(machine.charges());
-    machine.prove_usage(target); // At most this many pages are freed.
-    let Some(last) = machine.last_turn() else {
-        return pass_over(machine, tables, target, groups, want, pass);
-    };
-    let (above, others) = bit_set::parted(groups, last.number());
-    let freed = pass_over(machine, tables, target, above, want, pass);
-    if want <= freed {
-        return freed;
-    }
-    freed + pass_over(machine, tables, target, others, want - freed, pass)
 }

@@ -6,10 +6,12 @@ ghost use Rattle.group_charge.specs.Charges.{current_of};
 ghost use Rattle.boot_words.specs.Pasts.{IsHeld};
 ghost use Rattle.mem_machine.specs.Subtrees.{IsSubtree};
 ghost use Rattle.mem_reclaim.specs.Moves.{FreesBySteps};
-ghost use Rattle.mem_reclaim.specs.Passes.{Reclaims};
+ghost use Rattle.mem_reclaim.specs.Passes.{MakesPasses};
+ghost use Rattle.mem_reclaim.specs.Shares.{Reclaims};
 ghost use Rattle.mem_reclaim.specs.Staying.{Keeps, MissedAll};
 
 use crate::passes::{Pass, reclaim_pass};
+use crate::shares::reclaim_shares;
 use cpu_part::{BootName, Tables};
 use group_tree::group::GroupId;
 use mem_machine::{Machine, subtree};
@@ -37,25 +39,71 @@ fn make_passes<N: BootName>(
     requires wanted { 0 < want }
     requires subtree { IsSubtree machine.old.ledger.groups group groups }
     requires held { IsHeld N.table machine.old.run.past }
-    ensures reclaims { FreesBySteps N.table result machine.old machine.new (Reclaims group want) }
+    ensures reclaims { FreesBySteps N.table result machine.old machine.new (MakesPasses group want) }
     ensures missed { result < want → MissedAll group machine.old machine.new }
     ensures usage { current_of machine.new.ledger group + result ≡ current_of machine.old.ledger group }
     ensures few { result < want + 1024 }
     ensures keeps { Keeps N.table machine.old machine.new }
 {
     machine.prove_usage(group); // At most this many pages are freed.
-    let first = reclaim_pass(machine, tables, group, groups, want, Pass::First);
+    let first = reclaim_pass(machine, tables, group, groups, want, Pass::First, None);
     if want <= first {
         return first;
     }
-    let both = first + reclaim_pass(machine, tables, group, groups, want - first, Pass::Second);
+    let both = first
+        + reclaim_pass(
+            machine,
+            tables,
+            group,
+            groups,
+            want - first,
+            Pass::Second,
+            None,
+        );
     if want <= both {
         return both;
     }
     if !machine.charges().is_protecting() {
         return both;
     }
-    both + reclaim_pass(machine, tables, group, groups, want - both, Pass::Third)
+    both + reclaim_pass(
+        machine,
+        tables,
+        group,
+        groups,
+        want - both,
+        Pass::Third,
+        None,
+    )
+}
+
+// All passes of a reclaim of `want` pages: the pass of shares before the others, if the boot chose it.
+fn make_all_passes<N: BootName>(
+    machine: &mut Machine<N>,
+    tables: &Tables<N>,
+    group: GroupId,
+    groups: u64,
+    want: u64,
+) -> u64
+    requires there { IsTrue (has_group machine.old.ledger.groups group) }
+    requires wanted { 0 < want }
+    requires subtree { IsSubtree machine.old.ledger.groups group groups }
+    requires held { IsHeld N.table machine.old.run.past }
+    ensures reclaims { FreesBySteps N.table result machine.old machine.new (Reclaims group want) }
+    ensures missed { result < want → MissedAll group machine.old machine.new }
+    ensures usage { current_of machine.new.ledger group + result ≡ current_of machine.old.ledger group }
+    ensures few { result < want + 1024 }
+    ensures keeps { Keeps N.table machine.old machine.new }
+{
+    if !machine.is_proportional() {
+        return make_passes(machine, tables, group, groups, want);
+    }
+    machine.prove_usage(group); // At most this many pages are freed.
+    let shared = reclaim_shares(machine, tables, group, groups, want);
+    if want <= shared {
+        return shared;
+    }
+    shared + make_passes(machine, tables, group, groups, want - shared)
 }
 
 /// Frees units that the subtree of `group` keeps, until at least `want` pages are freed or every clean unit that
@@ -63,7 +111,9 @@ fn make_passes<N: BootName>(
 /// The first pass ages each group's lists, tries its inactive units and gives marked ones a second chance. The second
 /// pass tries all clean units. If some group of the tree has memory.low or memory.min, these passes spare what one of
 /// them protects, and a third spares only what memory.min protects. Each pass goes over the groups by ascending number,
-/// and over a list from the oldest unit to the newest. With `want` 0 nothing is done.
+/// and over a list from the oldest unit to the newest. If the boot chose it (`Choices::is_proportional`), a pass of shares
+/// comes before them: a first pass in which no turn wants more than its group's share of `want`, in proportion to the
+/// groups' clean pages. With `want` 0 nothing is done.
 pub fn reclaim<N: BootName>(
     machine: &mut Machine<N>,
     tables: &Tables<N>,
@@ -86,7 +136,7 @@ pub fn reclaim<N: BootName>(
         };
     }
     let groups = subtree(machine.charges().tree(), group);
-    let pages = make_passes(machine, tables, group, groups, want);
+    let pages = make_all_passes(machine, tables, group, groups, want);
     Reclaimed {
         pages,
         tried_all: pages < want,

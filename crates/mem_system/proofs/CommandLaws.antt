@@ -1,18 +1,33 @@
 -- Laws of commands and of the end. Serves `laws`.
-use Rattle.std.proofs.Common.{◌≡◌, ℕ, ◌≤◌, Bool, true, false, List, [], ◌∷◌, ◌++◌, length, sym, ap, ◌∙◌, inl, inr, arith, length-append}
+use Rattle.std.proofs.Common.{◌≡◌, ◌⊎◌, ℕ, ◌≤◌, Bool, true, false, List, [], ◌∷◌, ◌++◌, length, refl, sym, subst, ap, ◌∙◌, inl, inr, arith, length-append}
 use Rattle.std.specs.Prelude.{is_some}
 use Rattle.std.proofs.lemmas.Bool.{cases_eq, cases_lt}
 use Rattle.std.proofs.lemmas.List.{append-nil, length-take-le, nil_from_length}
+use Rattle.std.specs.Borrow.{Bor}
+use Rattle.group_tree.specs.declared.group.Group.{Group}
+use Rattle.group_tree.specs.declared.fault.Fault.{Fault}
 use Rattle.group_tree.specs.declared.fault.Fault.TheVariants as fault
+use Rattle.control_files.specs.declared.file.File.{File}
+use Rattle.control_files.specs.declared.file.File.TheVariants.{Reclaim}
 use Rattle.zone_blocks.specs.declared.config.Config.{Config}
 use Rattle.zone_blocks.specs.Config.{IsValidConfig}
 use Rattle.control_files.specs.Files.{name_of_file}
 use Rattle.cpu_part.specs.Cpus.{KnownCpuLists}
 use Rattle.step_rules.specs.{one_if, Run}
-use Rattle.mem_machine.specs.{VisitState, visit_state, home_of, settle_steps, open_steps, shut_steps, Transition, transition}
+use Rattle.mem_machine.specs.{KnownMachine, VisitState, visit_state, home_of, settle_steps, open_steps, shut_steps, Transition, transition}
 use Rattle.mem_reclaim.specs.Moves.{has_kill, kills_in}
 use Rattle.mem_reclaim.proofs.KillSets.{kills_both, quiet_kills}
-use Rattle.mem_system.specs.declared.command.ReplyWithText.TheVariants as reply
+use Rattle.mem_system.specs.declared.command.LockedCommand.{LockedCommand}
+use Rattle.mem_system.specs.declared.command.LockedCommand.TheVariants as cmd
+use Rattle.mem_system.specs.declared.outcome.Outcome.{Outcome}
+use Rattle.mem_system.specs.declared.outcome.Outcome.TheVariants as outcome
+use Rattle.mem_system.specs.declared.setting.Setting.{Setting}
+use Rattle.mem_system.specs.declared.setting.Setting.TheVariants as setting
+use Rattle.mem_system.specs.declared.text_command.TextCommand.TheVariants.{Write}
+use Rattle.mem_system.specs.Files.{FallsShort}
+use Rattle.mem_system.specs.Settings.{WritesSetting}
+use Rattle.mem_system.specs.TextCommands.{StandsFor}
+use Rattle.mem_system.specs.{Executes}
 use Rattle.mem_system.specs.{EndsLeaveEmptyWords, OnlyCommandsKill, OnlyReclaimFallsShort, ReleasesCutLists, ListStaysWithin, ListsFrame}
 use Rattle.mem_system.specs.{ReturnsFrames, visit_state_of}
 use Rattle.mem_system.proofs.Listing.{cut_off}
@@ -44,11 +59,31 @@ only_commands_kill cmd said call served =
 
 -- ---- a Write that is refused
 
+short_file : (file : File) (value : List ℕ) (s : Setting) (g : ℕ) (call : Transition KnownMachine) → WritesSetting file value s → FallsShort g s call
+    → file ≡ Reclaim
+short_file file value (setting.Reclaim asked) g call writes short = writes.0
+short_file file value other g call writes short = absurd short
+
+refused_write : (groups : List Group) (path name value : Bor (List ℕ)) (c : LockedCommand) (why : Fault) (sizes : Config) (call : Transition VisitState)
+    → StandsFor groups (Write path name value) c → Executes sizes c (outcome.Refused why) call
+    → ((call.after.machine ≡ call.before.machine) × (call.steps ≡ [])) ⊎ ((name.now ≡ name_of_file Reclaim) × (why ≡ fault.Again))
+refused_write groups path name value (cmd.Write g s) fault.NoFile sizes call stands h = inl (h.does.1.machine, h.does.1.steps_are)
+refused_write groups path name value (cmd.Write g s) fault.Again sizes call stands h =
+    inr (stands.is_file.named ∙ ap name_of_file (short_file stands.file value.now s g _ stands.writes h.does.1), refl)
+refused_write groups path name value (cmd.Write g s) other sizes call stands h = absurd h.does
+refused_write groups path name value other why sizes call stands h = absurd stands
+
 pub only_reclaim_falls_short : OnlyReclaimFallsShort
-only_reclaim_falls_short path file value why call served = elim served.executes.does [
-  | inl refused ↦ inl (refused.1.machine, refused.1.steps_are)
-  | inr short ↦ inr (short.is_file.named ∙ ap name_of_file short.falls.file_is, short.falls.fault_is)
-]
+only_reclaim_falls_short t path file value why before after served =
+    let visit = served.visit.serves in
+    let call = transition t visit.settled visit.inner (visit_state visit.done after.cpu.part) in
+    elim served.stands [
+      | inl is ↦ refused_write before.locked.machine.ledger.groups path file value served.served why before.locked.sizes call is.0
+          (subst (λ (o : Outcome). Executes before.locked.sizes served.served o call) (sym is.1) visit.executes)
+      | inr none ↦
+          let settled = subst (λ (c : LockedCommand). Executes before.locked.sizes c served.given call) none.1 visit.executes in
+          inl (settled.1.machine, settled.1.steps_are)
+    ]
 
 -- ---- the list after a Release
 
@@ -84,9 +119,9 @@ returns_within sizes f call valid returns = elim (cases_eq returns.returns.unit.
 ]
 
 pub releases_cut_lists : ReleasesCutLists
-releases_cut_lists sizes f (reply.Left left) call valid h = same_within sizes call.before.cpu call.after.cpu h.cpu
-releases_cut_lists sizes f reply.Returned call valid h = returns_within sizes f call valid h
-releases_cut_lists sizes f (reply.Refused fault.NotKept) call valid h = same_within sizes call.before.cpu call.after.cpu h.cpu
+releases_cut_lists sizes f (outcome.Left left) call valid h = same_within sizes call.before.cpu call.after.cpu h.cpu
+releases_cut_lists sizes f outcome.Returned call valid h = returns_within sizes f call valid h
+releases_cut_lists sizes f (outcome.Refused fault.NotKept) call valid h = same_within sizes call.before.cpu call.after.cpu h.cpu
 releases_cut_lists sizes f other call valid h = absurd h
 
 -- ---- the words at the end

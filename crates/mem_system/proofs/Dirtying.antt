@@ -1,7 +1,6 @@
 -- A Dirty that is served right after an Alloc finds the unit that the Alloc gave. Serves `serve_dirty_alloc`.
 use Rattle.std.proofs.Common.{◌≡◌, ℕ, zero, suc, ◌^◌, ◌<◌, ◌≤◌, false, true, Option, Some, List, [], ◌∷◌, ◌++◌, length, refl, sym, ap, ◌∙◌, subst, inl, inr, arith}
 use Rattle.std.specs.Prelude.{Ok, unwrap_or}
-use Rattle.std.specs.Borrow.{Bor}
 use Rattle.std.proofs.lemmas.Bool.{false≢true}
 use Rattle.std.proofs.lemmas.Option.{none-some}
 use Rattle.zone_blocks.specs.declared.config.Config.{Config}
@@ -25,8 +24,8 @@ use Rattle.mem_alloc.specs.{AllocatesBlock, FindsNoBlock, TakesFreeBlock, LacksB
 use Rattle.mem_alloc.specs.{LendsNoFrame, MakesRoom, PreparesCharge, SucceedsInRounds}
 use Rattle.mem_system.specs.declared.command.LockedCommand.{LockedCommand}
 use Rattle.mem_system.specs.declared.command.LockedCommand.TheVariants.{Alloc, Dirty}
-use Rattle.mem_system.specs.declared.command.ReplyWithText.{ReplyWithText}
-use Rattle.mem_system.specs.declared.command.ReplyWithText.TheVariants.{Done, Frame, Refused}
+use Rattle.mem_system.specs.declared.outcome.Outcome.{Outcome}
+use Rattle.mem_system.specs.declared.outcome.Outcome.TheVariants.{Done, Frame, Refused}
 use Rattle.mem_system.specs.{FreshOf, NotesDirt, IsServed, LockedState, begun, visit_state_of, with_run_at}
 
 -- the frame heads a kept unit
@@ -140,10 +139,7 @@ taken_group p q g s u run =
       ap (λ (x : State). (x.parts q).stock.group) (sym run.1) ∙ ap (λ (x : Part). x.stock.group) (at_same s.parts q (paid (s.parts q))) ∙ step.answered.0,
     )
 
-module _ (t : KnownTable) (path : Bor (List ℕ)) (f : ℕ) (start now : LockedState) (a : IsServed t (Alloc path 0) (Frame f) start now) where
-  abbrev group : ℕ
-  group = a.serves.executes.group
-
+module _ (t : KnownTable) (group f : ℕ) (start now : LockedState) (a : IsServed t (Alloc group 0) (Frame f) start now) where
   abbrev held_at_end : KnownMachine
   held_at_end = with_run now.locked.machine a.left
 
@@ -157,7 +153,7 @@ module _ (t : KnownTable) (path : Bor (List ℕ)) (f : ℕ) (start now : LockedS
       let s = local_of t (with_run start.locked.machine a.found) in
       let u = local_of t held_at_end in
       let c = start.cpu.part.number in
-      let gets = (a.serves.executes.allocates.frame refl).does in
+      let gets = (a.serves.executes.1.frame refl).does in
       let q = a.serves.settled.cpu.number in
       let settling = settle_steps t (visit_state_of start) in
       let all = subst (λ (r : Run). IsLocalRun p s r u) a.serves.steps_are a.makes.leads in
@@ -187,7 +183,7 @@ module _ (t : KnownTable) (path : Bor (List ℕ)) (f : ℕ) (start now : LockedS
       omega (arith, low, same)
 
   -- when the CPU is settled in its next visit
-  group_then : (cmd : LockedCommand) (r : ReplyWithText) (end : LockedState) (d : IsServed t cmd r now end)
+  group_then : (cmd : LockedCommand) (r : Outcome) (end : LockedState) (d : IsServed t cmd r now end)
       → stock_group t (with_run now.locked.machine d.serves.seen) now.cpu.part.number ≡ Some group
   group_then cmd r end d =
       let q = now.cpu.part.number in
@@ -211,46 +207,45 @@ none_fresh t (f ∷ rest) m n none s = let e = ap length none in absurd (omega (
 one_fresh : (t : KnownTable) (f : ℕ) (m n : VisitState) → is_fresh_killed t m ≡ false → SettlesAllFresh t (f ∷ []) m n → IsHome n.machine f
 one_fresh t f m n alive s = (_, ap (λ (k : KnownMachine). home_of k.links f) s.rest.machine ∙ (s.first.keeps alive).listed.home)
 
-module _ (t : KnownTable) (path : Bor (List ℕ)) (f : ℕ) (start now : LockedState) where
+module _ (t : KnownTable) (group f : ℕ) (start now : LockedState) where
   -- the frame that the Alloc gave is a kept unit, once its CPU is settled
-  settled_home : (order : ℕ) → IsServed t (Alloc path order) (Frame f) start now → FreshOf (Frame f) order now.cpu.part.fresh → now.cpu.part.back ≡ []
-      → (r : ReplyWithText) (end : LockedState) (d : IsServed t (Dirty f) r now end) → IsHome d.serves.settled.machine f
+  settled_home : (order : ℕ) → IsServed t (Alloc group order) (Frame f) start now → FreshOf (Frame f) order now.cpu.part.fresh → now.cpu.part.back ≡ []
+      → (r : Outcome) (end : LockedState) (d : IsServed t (Dirty f) r now end) → IsHome d.serves.settled.machine f
   settled_home zero a fresh back r end d =
       let m = with_run_at (begun (visit_state_of now)) d.serves.seen in
       let s = d.serves.settles in
-      let g = group t path f start now a in
       let call = transition t a.serves.settled a.serves.inner (visit_state a.serves.done now.cpu.part) in
-      let alive = ap (λ (x : KnownMachine). is_killed x.killed g) a.serves.machine
-      ∙ frame_alive start.locked.sizes g f call (a.serves.executes.allocates.frame refl) in
+      let alive = ap (λ (x : KnownMachine). is_killed x.killed group) a.serves.machine
+      ∙ frame_alive start.locked.sizes group f call (a.serves.executes.1.frame refl) in
       let kept = one_fresh t f m s.mid
-      (ap (λ (o : Option ℕ). is_killed now.locked.machine.killed (unwrap_or o 0)) (group_then t path f start now a (Dirty f) r end d) ∙ alive)
+      (ap (λ (o : Option ℕ). is_killed now.locked.machine.killed (unwrap_or o 0)) (group_then t group f start now a (Dirty f) r end d) ∙ alive)
       (subst (λ (l : List ℕ). SettlesAllFresh t l m s.mid) fresh s.fresh) in
       (kept.0, ap (λ (k : KnownMachine). home_of k.links f) (none_back m.cpu.back s.mid d.serves.settled back s.back) ∙ kept.1)
   settled_home (suc less) a fresh back r end d =
       let m = with_run_at (begun (visit_state_of now)) d.serves.seen in
       let s = d.serves.settles in
       let call = transition t a.serves.settled a.serves.inner (visit_state a.serves.done now.cpu.part) in
-      let kept = block_home a.serves.executes.group (suc less) f call (a.serves.executes.allocates.block (λ e. omega (arith, e))) in (
+      let kept = block_home group (suc less) f call (a.serves.executes.1.block (λ e. omega (arith, e))) in (
         kept.0,
         ap (λ (k : KnownMachine). home_of k.links f) (none_back m.cpu.back s.mid d.serves.settled back s.back ∙ none_fresh t m.cpu.fresh m s.mid fresh s.fresh)
             ∙ (ap (λ (x : KnownMachine). home_of x.links f) a.serves.machine ∙ kept.1),
       )
 
-  unit_noted : (r : ReplyWithText) (call : Transition KnownMachine) → NotesDirt f true r call → IsHome call.before f → r ≡ Done
+  unit_noted : (r : Outcome) (call : Transition KnownMachine) → NotesDirt f true r call → IsHome call.before f → r ≡ Done
   unit_noted Done call h home = refl
   unit_noted (Refused NotKept) call h home = absurd (none-some home.0 (sym h.on_no_list ∙ home.1))
   unit_noted r call h home = absurd h
 
   -- so the reply to the Dirty is Done
-  pub dirty_done : (order : ℕ) → IsServed t (Alloc path order) (Frame f) start now → FreshOf (Frame f) order now.cpu.part.fresh → now.cpu.part.back ≡ []
-      → (r : ReplyWithText) (end : LockedState) → IsServed t (Dirty f) r now end → r ≡ Done
+  pub dirty_done : (order : ℕ) → IsServed t (Alloc group order) (Frame f) start now → FreshOf (Frame f) order now.cpu.part.fresh → now.cpu.part.back ≡ []
+      → (r : Outcome) (end : LockedState) → IsServed t (Dirty f) r now end → r ≡ Done
   dirty_done order a fresh back r end d = unit_noted r _ d.serves.executes.does.does (settled_home order a fresh back r end d)
 
   -- the frame is one of the zone
-  pub given_inside : (order : ℕ) → IsServed t (Alloc path order) (Frame f) start now → FreshOf (Frame f) order now.cpu.part.fresh
+  pub given_inside : (order : ℕ) → IsServed t (Alloc group order) (Frame f) start now → FreshOf (Frame f) order now.cpu.part.fresh
       → IsConsistent t now.locked.machine → f < t.frames
-  given_inside zero a fresh ok = frame_inside t path f start now a fresh
+  given_inside zero a fresh ok = frame_inside t group f start now a fresh
   given_inside (suc less) a fresh ok =
       let call = transition t a.serves.settled a.serves.inner (visit_state a.serves.done now.cpu.part) in
-      let kept = block_home a.serves.executes.group (suc less) f call (a.serves.executes.allocates.block (λ e. omega (arith, e))) in
+      let kept = block_home group (suc less) f call (a.serves.executes.1.block (λ e. omega (arith, e))) in
       home_inside t now.locked.machine ok f kept.0 (ap (λ (x : KnownMachine). home_of x.links f) a.serves.machine ∙ kept.1)

@@ -11,8 +11,7 @@ use Rattle.mem_machine.proofs.Followed.{makes_both, makes_none}
 use Rattle.mem_reclaim.specs.{FreesBySteps, ReclaimsRounds, pages_missing, Keeps, MissedAll}
 use Rattle.mem_reclaim.proofs.LettingGo.{drains_leave}
 use Rattle.mem_alloc.specs.{KillsForRoom, KillsIfAllowed, with_limit_noted}
-use Rattle.mem_system.specs.{IsLeafAt, LowersUsage, LowersAbove, LowersToHigh, KeepsToLimit, with_high_told, SetsLimit, with_limit_of}
-use Rattle.mem_system.proofs.Found.{found_there}
+use Rattle.mem_system.specs.{IsLeaf, LowersUsage, LowersAbove, LowersToHigh, KeepsToLimit, with_high_told, SetsLimit, with_limit_of}
 
 -- a call on the machine alone keeps the visit if the CPU is visited after it
 pub keeps_visit : (t : KnownTable) (m n : KnownMachine) (c : KnownCpuLists) → Visits t n c → KeepsVisit t c n c
@@ -146,9 +145,8 @@ module _ (t : KnownTable) (g high : ℕ) (of : Option ℕ) (m : KnownMachine) (s
 
 -- ---- a group that is removed
 
--- the group of a path is there still, and no group lies below it
-pub leaf_keeps : (was now : List Group) (path : List ℕ) (g : ℕ) → now ≡ was → IsLeafAt was path g
+-- the group is there still, and no group lies below it
+pub leaf_keeps : (was now : List Group) (g : ℕ) → now ≡ was → has_group was g ≡ true → IsLeaf was g
     → (has_group now g ≡ true) × (has_child now g ≡ false)
-leaf_keeps was now path g same is =
-    subst (λ (l : List Group). (has_group l g ≡ true) × (has_child l g ≡ false)) (sym same)
-    (found_there was path g is.number, is.leaf)
+leaf_keeps was now g same there is =
+    subst (λ (l : List Group). (has_group l g ≡ true) × (has_child l g ≡ false)) (sym same) (there, is.1)

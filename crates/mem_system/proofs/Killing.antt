@@ -6,13 +6,13 @@ use Rattle.std.proofs.lemmas.Bool.{cases_eq, cases_lt, leb-false}
 use Rattle.boot_words.specs.Pasts.{IsHeld}
 use Rattle.group_tree.specs.declared.group.Group.{Group}
 use Rattle.group_tree.specs.declared.fault.Fault.TheVariants as fault
-use Rattle.group_tree.specs.{in_subtree, limit_of, number_at, with_limit, fits_limit}
+use Rattle.group_tree.specs.{has_group, in_subtree, limit_of, with_limit, fits_limit}
 use Rattle.group_tree.proofs.CallerLemmas.{limit_of-limited}
 use Rattle.group_charge.specs.Charges.{current_of}
 use Rattle.group_charge.proofs.UsageLemmas.{usage-limited}
 use Rattle.zone_blocks.specs.declared.config.Config.{Config}
-use Rattle.control_files.specs.declared.file.File.{File}
-use Rattle.control_files.specs.declared.file.File.TheVariants.{Max, High, Low, Min, OomGroup, Reclaim}
+use Rattle.mem_system.specs.declared.setting.Setting.{Setting}
+use Rattle.mem_system.specs.declared.setting.Setting.TheVariants.{Max, High, Low, Min, OomGroup, Reclaim}
 use Rattle.boot_words.specs.Tables.{KnownTable}
 use Rattle.cpu_part.specs.Cpus.{KnownCpuLists}
 use Rattle.step_rules.specs.After.{Run}
@@ -30,18 +30,18 @@ use Rattle.mem_alloc.proofs.NoRash.{Passes, RashFree, drained_on, keeps_pass, mi
 use Rattle.mem_alloc.proofs.NoRashAllocs.{block_no_rash, frame_no_rash, no_kill_both}
 use Rattle.mem_system.specs.declared.command.LockedCommand.{LockedCommand}
 use Rattle.mem_system.specs.declared.command.LockedCommand.TheVariants.{Mkdir, Rmdir, Write, Read, Settle, Owner, Release, Alloc}
-use Rattle.mem_system.specs.declared.command.ReplyWithText.{ReplyWithText}
-use Rattle.mem_system.specs.declared.command.ReplyWithText.TheVariants as reply
-use Rattle.mem_system.specs.{MakesGroup, Removes, IsFileOf, IsLimitFor, SetsFile, SetsLimit, Writes, with_high_of, with_limit_of, LowersUsage}
-use Rattle.mem_system.specs.{LowersAbove, LowersByKills, LowersToHigh, KeepsToLimit, with_high_told, Allocates, AllocatesFor, CutsList, ListsFrame}
+use Rattle.mem_system.specs.declared.outcome.Outcome.{Outcome}
+use Rattle.mem_system.specs.declared.outcome.Outcome.TheVariants as outcome
+use Rattle.mem_system.specs.Files.{FallsShort}
+use Rattle.mem_system.specs.{MakesGroup, NamesWhatExists, Removes, Sets, SetsLimit, Writes, with_high_of, with_limit_of, LowersUsage}
+use Rattle.mem_system.specs.{LowersAbove, LowersByKills, LowersToHigh, KeepsToLimit, with_high_told, Allocates, AllocatesWithin, CutsList, ListsFrame}
 use Rattle.mem_system.specs.{ReleasesFrame, ReturnsFrames, MayAskFor, Executes}
-use Rattle.mem_system.proofs.Found.{found_there}
 
 -- ---- commands that kill nobody
 
-makes_quiet : (path : List ℕ) (said : ReplyWithText) (call : Transition KnownMachine) → MakesGroup path said call → has_kill call.steps ≡ false
-makes_quiet path (reply.Group n) call h = ap has_kill h.steps_are
-makes_quiet path (reply.Refused fault) call h = ap has_kill h.1.steps_are
+makes_quiet : (path : List ℕ) (said : Outcome) (call : Transition KnownMachine) → MakesGroup path said call → has_kill call.steps ≡ false
+makes_quiet path (outcome.Group n) call h = ap has_kill h.steps_are
+makes_quiet path (outcome.Refused fault) call h = ap has_kill h.1.steps_are
 makes_quiet path other call h = absurd h
 
 lowers_quiet : (g limit : ℕ) (call : Transition KnownMachine) → LowersUsage g limit call → has_kill call.steps ≡ false
@@ -56,13 +56,13 @@ high_quiet g (Some high) call h = elim (cases_lt high (current_of call.before.le
   | inr within ↦ ap has_kill (h.within within).steps_are
 ]
 
-removes_quiet : (path : List ℕ) (said : ReplyWithText) (call : Transition KnownMachine) → Removes path said call → has_kill call.steps ≡ false
-removes_quiet path reply.Done call h =
+removes_quiet : (group : ℕ) (said : Outcome) (call : Transition KnownMachine) → Removes group said call → has_kill call.steps ≡ false
+removes_quiet group outcome.Done call h =
     ap has_kill h.steps_are
-    ∙ no_kill_both h.lowering (remove_steps h.group) (lowers_quiet h.group 0 (transition call.table call.before h.lowering h.emptied) h.lowers) refl
-removes_quiet path (reply.Refused fault.Busy) call h = lowers_quiet h.group 0 call h.lowers
-removes_quiet path (reply.Refused other) call h = ap has_kill h.1.steps_are
-removes_quiet path other call h = absurd h
+    ∙ no_kill_both h.lowering (remove_steps group) (lowers_quiet group 0 (transition call.table call.before h.lowering h.emptied) h.lowers) refl
+removes_quiet group (outcome.Refused fault.Busy) call h = lowers_quiet group 0 call h.lowers
+removes_quiet group (outcome.Refused other) call h = ap has_kill h.1.steps_are
+removes_quiet group other call h = absurd h
 
 cuts_quiet : (sizes : Config) (call : Transition VisitState) → CutsList sizes call → has_kill call.steps ≡ false
 cuts_quiet sizes call h = ap has_kill h.steps_are ∙ back_calm call.before.cpu.number h.cut
@@ -80,10 +80,10 @@ returns_quiet sizes f call h =
     ] in
     ap has_kill h.steps_are ∙ no_kill_both (release_steps f released.Returned) h.listing refl listed
 
-releases_quiet : (sizes : Config) (f : ℕ) (said : ReplyWithText) (call : Transition VisitState) → ReleasesFrame sizes f said call → has_kill call.steps ≡ false
-releases_quiet sizes f (reply.Left left) call h = ap has_kill h.steps_are
-releases_quiet sizes f reply.Returned call h = returns_quiet sizes f call h
-releases_quiet sizes f (reply.Refused fault.NotKept) call h = ap has_kill h.does.stays.steps_are
+releases_quiet : (sizes : Config) (f : ℕ) (said : Outcome) (call : Transition VisitState) → ReleasesFrame sizes f said call → has_kill call.steps ≡ false
+releases_quiet sizes f (outcome.Left left) call h = ap has_kill h.steps_are
+releases_quiet sizes f outcome.Returned call h = returns_quiet sizes f call h
+releases_quiet sizes f (outcome.Refused fault.NotKept) call h = ap has_kill h.does.stays.steps_are
 releases_quiet sizes f other call h = absurd h
 
 -- a note before the steps changes nothing of what they pass on
@@ -144,88 +144,85 @@ module _ (t : KnownTable) (MayAsk : List Group → ℕ → ℕ → Type 0) (s : 
   keeps_rash g None made m steps n is asked since h = rash_quiet t MayAsk s held made steps (ap has_kill h.steps_are)
   keeps_rash g (Some limit) made m steps n is asked since h = lowers_rash g limit made m steps n is asked since h
 
-  sets_rash : (path : List ℕ) (g : ℕ) (of : Option ℕ) (steps : Run) (n : KnownMachine) → number_at s.ledger.groups path ≡ Some g
+  sets_rash : (g : ℕ) (of : Option ℕ) (steps : Run) (n : KnownMachine) → has_group s.ledger.groups g ≡ true
       → MayAsk (with_limit s.ledger.groups g of) g 0 → SetsLimit g of (transition t s steps n) → NoRashKill t MayAsk s steps
-  sets_rash path g of steps n found asked h =
+  sets_rash g of steps n there asked h =
       let x = with_run (with_limit_of s g of) h.seen in
       let first = set_max_steps g of in
       let set = passes_same t s x first h.sets refl refl (λ k. let e = usage-limited s.ledger.groups s.ledger.accounts g k of in omega (arith, e)) in
       subst (λ (k : Run). RashFree t MayAsk s [] k) (sym h.steps_are) (rash_both t MayAsk s held [] first h.lowering
       (rash_quiet t MayAsk s held [] first refl)
-      (keeps_rash g of first x h.lowering n (limit_of-limited s.ledger.groups g of (found_there s.ledger.groups path g found)) asked set h.keeps))
+      (keeps_rash g of first x h.lowering n (limit_of-limited s.ledger.groups g of there) asked set h.keeps))
 
-  -- a value that is set kills only by the limit that it writes
-  module _ (path name value : List ℕ) (asks : (g : ℕ) (of : Option ℕ) → IsLimitFor s.ledger.groups path name value g of
-      → MayAsk (with_limit s.ledger.groups g of) g 0) where
-    set_no_rash : (g : ℕ) (file : File) (steps : Run) (n : KnownMachine) → IsFileOf s.ledger.groups path name g file
-        → SetsFile file value g (transition t s steps n) → NoRashKill t MayAsk s steps
-    set_no_rash g Max steps n is h =
-        sets_rash path g h.limit steps n is.number (asks g h.limit (record { file = is; reads = h.reads })) h.sets
-    set_no_rash g High steps n is h = quiet steps (high_quiet g h.limit (transition t (with_high_of s g h.limit) steps n) h.lowers)
-    set_no_rash g Low steps n is h = quiet steps (ap has_kill h.steps_are)
-    set_no_rash g Min steps n is h = quiet steps (ap has_kill h.steps_are)
-    set_no_rash g OomGroup steps n is h = quiet steps (ap has_kill h.sets.steps_are)
-    set_no_rash g Reclaim steps n is h = quiet steps (ap has_kill h.steps_are ∙ h.reclaims.moves.no_kill)
-    set_no_rash g file steps n is h = absurd h
+  -- a setting kills only by the limit that it sets
+  set_no_rash : (g : ℕ) (setting : Setting) (steps : Run) (n : KnownMachine) → has_group s.ledger.groups g ≡ true
+      → ((of : Option ℕ) → setting ≡ Max of → MayAsk (with_limit s.ledger.groups g of) g 0)
+      → Sets g setting (transition t s steps n) → NoRashKill t MayAsk s steps
+  set_no_rash g (Max of) steps n there asks h = sets_rash g of steps n there (asks of refl) h
+  set_no_rash g (High of) steps n there asks h = quiet steps (high_quiet g of (transition t (with_high_of s g of) steps n) h)
+  set_no_rash g (Low of) steps n there asks h = quiet steps (ap has_kill h.1)
+  set_no_rash g (Min of) steps n there asks h = quiet steps (ap has_kill h.1)
+  set_no_rash g (OomGroup flag) steps n there asks h = quiet steps (ap has_kill h.steps_are)
+  set_no_rash g (Reclaim asked) steps n there asks h = quiet steps (ap has_kill h.steps_are ∙ h.reclaims.moves.no_kill)
 
-    writes_no_rash : (said : ReplyWithText) (steps : Run) (n : KnownMachine) → Writes path name value said (transition t s steps n) → NoRashKill t MayAsk s steps
-    writes_no_rash reply.Done steps n h = set_no_rash h.group h.file steps n h.is_file h.sets
-    writes_no_rash (reply.Refused fault) steps n h = elim h [
-      | inl r ↦ quiet steps (ap has_kill r.1.steps_are)
-      | inr short ↦ let frees = short.falls.frees in quiet steps (ap has_kill frees.steps_are ∙ frees.reclaims.moves.no_kill)
-    ]
-    writes_no_rash other steps n h = absurd h
+  short_quiet : (g : ℕ) (setting : Setting) (steps : Run) (n : KnownMachine) → FallsShort g setting (transition t s steps n) → has_kill steps ≡ false
+  short_quiet g (Reclaim asked) steps n h = ap has_kill h.steps_are ∙ h.reclaims.moves.no_kill
+  short_quiet g other steps n h = absurd h
+
+  writes_no_rash : (g : ℕ) (setting : Setting) (said : Outcome) (steps : Run) (n : KnownMachine) → has_group s.ledger.groups g ≡ true
+      → ((of : Option ℕ) → setting ≡ Max of → MayAsk (with_limit s.ledger.groups g of) g 0)
+      → Writes g setting said (transition t s steps n) → NoRashKill t MayAsk s steps
+  writes_no_rash g setting outcome.Done steps n there asks h = set_no_rash g setting steps n there asks h.1
+  writes_no_rash g setting (outcome.Refused fault.NoFile) steps n there asks h = quiet steps (ap has_kill h.1.steps_are)
+  writes_no_rash g setting (outcome.Refused fault.Again) steps n there asks h = quiet steps (short_quiet g setting steps n h.1)
+  writes_no_rash g setting other steps n there asks h = absurd h
 
   -- ---- an allocation
 
-  module _ (c : KnownCpuLists) (sizes : Config) (path : List ℕ) (order : ℕ) (asks : (g over : ℕ) → number_at s.ledger.groups path ≡ Some g
-      → in_subtree s.ledger.groups over g ≡ true → 2 ^ order ≤ 8 → MayAsk s.ledger.groups over (2 ^ order)) where
+  module _ (c : KnownCpuLists) (sizes : Config) (g order : ℕ)
+      (asks : (over : ℕ) → in_subtree s.ledger.groups over g ≡ true → 2 ^ order ≤ 8 → MayAsk s.ledger.groups over (2 ^ order)) where
     allocates_for : (answer : Result ℕ AllocFault) (steps : Run) (n : VisitState)
-        → AllocatesFor sizes path order answer (transition t (visit_state s c) steps n) → NoRashKill t MayAsk s steps
+        → AllocatesWithin sizes g order answer (transition t (visit_state s c) steps n) → NoRashKill t MayAsk s steps
     allocates_for answer steps n h = elim (cases_eq order 0) [
       | inl frame ↦
           let one : 2 ^ order ≡ 1 = ap (λ (k : ℕ). 2 ^ k) frame in
-          let may = subst (λ (p : ℕ). (over : ℕ) → in_subtree s.ledger.groups over h.group ≡ true → p ≤ 8 → MayAsk s.ledger.groups over p) one
-          (λ over below few. asks h.group over h.found below few) in
-          frame_no_rash t MayAsk s c held h.group may sizes answer steps n (h.allocates.frame frame)
-      | inr block ↦
-          block_no_rash t MayAsk s c held h.group order (λ over below few. asks h.group over h.found below few) answer steps n (h.allocates.block block)
+          let may = subst (λ (p : ℕ). (over : ℕ) → in_subtree s.ledger.groups over g ≡ true → p ≤ 8 → MayAsk s.ledger.groups over p) one asks in
+          frame_no_rash t MayAsk s c held g may sizes answer steps n (h.1.frame frame)
+      | inr block ↦ block_no_rash t MayAsk s c held g order asks answer steps n (h.1.block block)
     ]
 
-    allocates_no_rash : (said : ReplyWithText) (steps : Run) (n : VisitState) → Allocates sizes path order said (transition t (visit_state s c) steps n)
+    allocates_no_rash : (said : Outcome) (steps : Run) (n : VisitState) → Allocates sizes g order said (transition t (visit_state s c) steps n)
         → NoRashKill t MayAsk s steps
-    allocates_no_rash (reply.Frame f) steps n h = allocates_for (Ok f) steps n h
-    allocates_no_rash (reply.OverLimit g text) steps n h = allocates_for (Err (Over g)) steps n h.0
-    allocates_no_rash (reply.Refused fault.NoGroup) steps n h = quiet steps (ap has_kill h.1.steps_are)
-    allocates_no_rash (reply.Refused fault.BadOrder) steps n h = quiet steps (ap has_kill h.stays.steps_are)
-    allocates_no_rash (reply.Refused fault.NoFrames) steps n h = allocates_for (Err NoFrames) steps n h
-    allocates_no_rash (reply.Refused fault.Killed) steps n h = allocates_for (Err RequesterKilled) steps n h
+    allocates_no_rash (outcome.Frame f) steps n h = allocates_for (Ok f) steps n h
+    allocates_no_rash (outcome.OverLimit over) steps n h = allocates_for (Err (Over over)) steps n h
+    allocates_no_rash (outcome.Refused fault.BadOrder) steps n h = quiet steps (ap has_kill h.1.steps_are)
+    allocates_no_rash (outcome.Refused fault.NoFrames) steps n h = allocates_for (Err NoFrames) steps n h
+    allocates_no_rash (outcome.Refused fault.Killed) steps n h = allocates_for (Err RequesterKilled) steps n h
     allocates_no_rash other steps n h = absurd h
 
 -- ---- all commands
 
 module _ (t : KnownTable) (sizes : Config) (s : KnownMachine) (c : KnownCpuLists) (held : IsHeld t s.run.past) where
-  pub obeys_no_rash : (cmd : LockedCommand) (said : ReplyWithText) (steps : Run) (n : VisitState) → Executes sizes cmd said (transition t (visit_state s c) steps n)
-      → NoRashKill t (MayAskFor cmd s.ledger.groups) s steps
-  obeys_no_rash (Mkdir path) said steps n h =
+  pub obeys_no_rash : (cmd : LockedCommand) (said : Outcome) (steps : Run) (n : VisitState) → NamesWhatExists t s.ledger.groups cmd
+      → Executes sizes cmd said (transition t (visit_state s c) steps n) → NoRashKill t (MayAskFor cmd s.ledger.groups) s steps
+  obeys_no_rash (Mkdir path) said steps n names h =
       quiet t (MayAskFor (Mkdir path) s.ledger.groups) s held steps (makes_quiet path.now said (transition t s steps n.machine) h.does)
-  obeys_no_rash (Rmdir path) said steps n h =
-      quiet t (MayAskFor (Rmdir path) s.ledger.groups) s held steps (removes_quiet path.now said (transition t s steps n.machine) h.does)
-  obeys_no_rash (Write path file value) said steps n h =
-      writes_no_rash t (MayAskFor (Write path file value) s.ledger.groups) s held path.now file.now value.now
-      (λ g of asked. record { limit = of; asks = asked; now_is = refl; no_page = refl }) said steps n.machine h.does
-  obeys_no_rash (Read path file) said steps n h =
-      quiet t (MayAskFor (Read path file) s.ledger.groups) s held steps (ap has_kill h.1.steps_are)
-  obeys_no_rash Settle said steps n h = quiet t (MayAskFor Settle s.ledger.groups) s held steps (ap has_kill h.1.steps_are)
-  obeys_no_rash (Owner f) said steps n h = quiet t (MayAskFor (Owner f) s.ledger.groups) s held steps (ap has_kill h.1.steps_are)
-  obeys_no_rash (Release f) said steps n h =
+  obeys_no_rash (Rmdir group) said steps n names h =
+      quiet t (MayAskFor (Rmdir group) s.ledger.groups) s held steps (removes_quiet group said (transition t s steps n.machine) h.does)
+  obeys_no_rash (Write group setting) said steps n names h =
+      writes_no_rash t (MayAskFor (Write group setting) s.ledger.groups) s held group setting said steps n.machine names
+      (λ of is. rw is (record { limited = refl; now_is = refl; no_page = refl })) h.does
+  obeys_no_rash (Read group file) said steps n names h =
+      quiet t (MayAskFor (Read group file) s.ledger.groups) s held steps (ap has_kill h.1.steps_are)
+  obeys_no_rash Settle said steps n names h = quiet t (MayAskFor Settle s.ledger.groups) s held steps (ap has_kill h.1.steps_are)
+  obeys_no_rash (Owner f) said steps n names h = quiet t (MayAskFor (Owner f) s.ledger.groups) s held steps (ap has_kill h.1.steps_are)
+  obeys_no_rash (Release f) said steps n names h =
       quiet t (MayAskFor (Release f) s.ledger.groups) s held steps (releases_quiet sizes f said (transition t (visit_state s c) steps n) h)
-  obeys_no_rash (Alloc path order) said steps n h =
-      allocates_no_rash t (MayAskFor (Alloc path order) s.ledger.groups) s held c sizes path.now order
-      (λ g over found below few. record { group = g; found = found; same = refl; below = record { on_path = below; need_is = refl; few = few } })
-      said steps n h
+  obeys_no_rash (Alloc group order) said steps n names h =
+      allocates_no_rash t (MayAskFor (Alloc group order) s.ledger.groups) s held c sizes group order
+      (λ over below few. record { same = refl; below = record { on_path = below; need_is = refl; few = few } }) said steps n h
   -- any other makes no step
-  obeys_no_rash cmd said steps n h = quiet t (MayAskFor cmd s.ledger.groups) s held steps (ap has_kill h.does.steps_are)
+  obeys_no_rash cmd said steps n names h = quiet t (MayAskFor cmd s.ledger.groups) s held steps (ap has_kill h.does.steps_are)
 
 -- ---- the steps around it
 

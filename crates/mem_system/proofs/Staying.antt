@@ -1,4 +1,4 @@
--- Serves `serve_frame_outcome`: settling leaves the groups.
+-- Serves `serve_outcome`: settling leaves the groups.
 use Rattle.std.proofs.Common.{◌≡◌, ℕ, List, [], ◌∷◌, ap, ◌∙◌, inl, inr}
 use Rattle.std.proofs.lemmas.Bool.{cases_Bool}
 use Rattle.boot_words.specs.Tables.{KnownTable}

@@ -2,17 +2,12 @@
 use Rattle.std.proofs.Common.{◌≡◌, ℕ, suc, ◌+◌, ◌≤◌, true, false, Option, Some, None, List, ◌++◌, refl, sym, ap, ◌∙◌, subst, inl, inr, arith}
 use Rattle.std.specs.Prelude.{nat_le}
 use Rattle.std.proofs.lemmas.Bool.{cases_lt, leb-false, false≢true}
-use Rattle.std.proofs.lemmas.Option.{same_Some}
 use Rattle.group_tree.specs.declared.group.Group.{Group}
-use Rattle.group_tree.specs.{fits_limit, limit_of, number_at}
+use Rattle.group_tree.specs.{fits_limit, has_group, limit_of}
 use Rattle.group_tree.proofs.CallerLemmas.{limit_of-limited}
 use Rattle.group_charge.specs.Charges.{current_of}
 use Rattle.group_charge.proofs.UsageLemmas.{usage-limited}
 use Rattle.group_protection.proofs.Topping.{kept_still}
-use Rattle.control_files.specs.declared.file.File.{File}
-use Rattle.control_files.specs.declared.file.File.TheVariants.{Max}
-use Rattle.control_files.specs.Files.{name_of_file}
-use Rattle.control_files.proofs.FileLemmas.{found-name_of}
 use Rattle.boot_words.specs.Tables.{KnownTable}
 use Rattle.step_rules.specs.{Part, Run}
 use Rattle.mem_machine.specs.{KnownMachine, with_run, drain_stocks_steps, of_subtree, set_max_steps, AreDrained, HasDrained, transition}
@@ -22,9 +17,8 @@ use Rattle.mem_reclaim.proofs.LettingGo.{drains_leave}
 use Rattle.mem_alloc.specs.{has_room_at, with_limit_noted}
 use Rattle.mem_alloc.specs.Laws.{TriedAll}
 use Rattle.mem_alloc.proofs.Refused.{none_killed}
-use Rattle.mem_system.specs.{KeepsToLimit, LowersByKills, SetsFile, SetsLimit, with_limit_of}
+use Rattle.mem_system.specs.{KeepsToLimit, LowersByKills, SetsLimit, with_limit_of}
 use Rattle.mem_system.specs.KillLaws.{WritesOverALimitTriedAll}
-use Rattle.mem_system.proofs.Found.{found_there}
 
 -- the limit has no room for what is used
 exceeds : (limit used : ℕ) (o : Option ℕ) → o ≡ Some limit → fits_limit o (used + 0) ≡ false → suc limit ≤ used
@@ -83,21 +77,11 @@ module _ (t : KnownTable) (s : KnownMachine) (g : ℕ) (inner : Run) (n : KnownM
         absurd (omega (arith, within, full))
   ]
 
-  set_tried : (path : List ℕ) (of : Option ℕ) → number_at s.ledger.groups path ≡ Some g → SetsLimit g of (transition t s inner n) → Tried
-  set_tried path of found sets =
+  set_tried : (of : Option ℕ) → has_group s.ledger.groups g ≡ true → SetsLimit g of (transition t s inner n) → Tried
+  set_tried of there sets =
       kept_tried of (set_max_steps g of) sets.lowering (with_run (with_limit_of s g of) sets.seen) sets.steps_are
-      (limit_of-limited s.ledger.groups g of (found_there s.ledger.groups path g found)) (λ h. usage-limited s.ledger.groups s.ledger.accounts g h of) sets.keeps
-
-same_file : (name : List ℕ) (a b : File) → name ≡ name_of_file a → name ≡ name_of_file b → a ≡ b
-same_file name a b one two = same_Some a b (sym ((found-name_of name a).1 one) ∙ (found-name_of name b).1 two)
+      (limit_of-limited s.ledger.groups g of there) (λ h. usage-limited s.ledger.groups s.ledger.accounts g h of) sets.keeps
 
 pub written_tried_all : WritesOverALimitTriedAll
-written_tried_all path file value call served g chosen is over =
-    let t = call.table in
-    let s = served.settled.machine in
-    let n = served.done in
-    let h = served.executes.does in
-    let same : h.group ≡ g = same_Some h.group g (sym h.is_file.number ∙ is.number) in
-    let max : h.file ≡ Max = same_file file.now h.file Max h.is_file.named is.named in
-    let sets = subst (λ (x : File × ℕ). SetsFile x.0 value.now x.1 (transition t s served.inner n)) (λ i. (max i, same i)) h.sets in
-    set_tried t s g served.inner n chosen served.misses over path.now sets.limit is.number sets.sets
+written_tried_all g of call served chosen over =
+    set_tried call.table served.settled.machine g served.inner served.done chosen served.misses over of served.names served.executes.does.1

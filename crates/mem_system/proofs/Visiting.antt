@@ -1,4 +1,4 @@
--- A whole visit under the lock, from what its calls say. Serves `serve_outcome` and `serve_frame_outcome`.
+-- A whole visit under the lock, from what its calls say. Serves `serve_outcome`.
 use Rattle.std.proofs.Common.{◌≡◌, ℕ, true, false, ◌++◌, refl, sym, ap, ◌∙◌, subst, unwrap_or}
 use Rattle.std.specs.List.{flat_map}
 use Rattle.std.proofs.lemmas.Bool.{false≢true}
@@ -13,8 +13,8 @@ use Rattle.mem_machine.specs.{Settles, fresh_steps, return_all_steps, settle_ste
 use Rattle.mem_machine.proofs.Followed.{makes_both}
 use Rattle.mem_reclaim.proofs.Grown.{held_after, misses_after}
 use Rattle.mem_system.specs.declared.command.LockedCommand.{LockedCommand}
-use Rattle.mem_system.specs.declared.command.ReplyWithText.{ReplyWithText}
-use Rattle.mem_system.specs.{Executes, cpu_in_run, AllShut, CountsItsRun, KnownLocked, IsServed, locked_state, visit_steps}
+use Rattle.mem_system.specs.declared.outcome.Outcome.{Outcome}
+use Rattle.mem_system.specs.{Executes, NamesWhatExists, cpu_in_run, AllShut, CountsItsRun, KnownLocked, IsServed, locked_state, visit_steps}
 use Rattle.mem_system.proofs.Counted.{visit_counted}
 use Rattle.mem_system.proofs.Killing.{around_quiet, obeys_no_rash}
 use Rattle.mem_system.proofs.Locking.{part_locked, run_twice}
@@ -119,11 +119,11 @@ module _ (t : KnownTable) (m : KnownMachine) (c : KnownCpuLists) (seat : KnownCp
       visit_counted t m v.found v.left k (visit_steps t (visit_state m c) inner) seat.past seat'.past rests told v.locks v.takes all_made v.unlocks v.gives rests_after
 
 -- the whole command
-pub served : (t : KnownTable) (cmd : LockedCommand) (reply : ReplyWithText) (l k : KnownLocked) (c : KnownCpuLists) (seat : KnownCpuSeat) (inner : Run) (d : KnownCpuLists) (seat' : KnownCpuSeat)
+pub served : (t : KnownTable) (cmd : LockedCommand) (outcome : Outcome) (l k : KnownLocked) (c : KnownCpuLists) (seat : KnownCpuSeat) (inner : Run) (d : KnownCpuLists) (seat' : KnownCpuSeat)
     (v : GoesThrough t l.machine c seat inner k.machine d seat') → k.sizes ≡ l.sizes
-    → Executes l.sizes cmd reply (transition t (visit_state v.mid v.settled) inner (visit_state v.done d))
-    → IsServed t cmd reply (locked_state l (cpu_in_run c seat)) (locked_state k (cpu_in_run d seat'))
-served t cmd reply l k c seat inner d seat' v sizes executed =
+    → NamesWhatExists t v.mid.ledger.groups cmd → Executes l.sizes cmd outcome (transition t (visit_state v.mid v.settled) inner (visit_state v.done d))
+    → IsServed t cmd outcome (locked_state l (cpu_in_run c seat)) (locked_state k (cpu_in_run d seat'))
+served t cmd outcome l k c seat inner d seat' v sizes names executed =
     let p = c.number in
     let m = l.machine in
     let steps = visit_steps t (visit_state m c) inner in
@@ -137,10 +137,11 @@ served t cmd reply l k c seat inner d seat' v sizes executed =
         settled = visit_state v.mid v.settled;
         seen = v.entered.run;
         settles = subst (λ (x : KnownMachine). Settles t (visit_state x c) (visit_state v.mid v.settled)) (entered_is t m c seat inner k.machine d seat' v) v.settles;
+        names = names;
         inner = inner;
         done = v.done;
         executes = executed;
-        no_rash = obeys_no_rash t l.sizes v.mid v.settled held cmd reply inner (visit_state v.done d) executed;
+        no_rash = obeys_no_rash t l.sizes v.mid v.settled held cmd outcome inner (visit_state v.done d) names executed;
         only_inner = around_quiet t p (visit_state m c);
         misses = misses_after t v.mid inner v.done v.making held;
         machine = run_twice v.done v.left k.machine _ _ v.shuts v.unlocks;

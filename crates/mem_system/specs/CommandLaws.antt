@@ -12,35 +12,36 @@ use Rattle.mem_machine.specs.Local.{VisitState}
 use Rattle.mem_reclaim.specs.Moves.{kills_in}
 use Rattle.mem_system.specs.declared.audit.Audit.{Audit}
 use Rattle.mem_system.specs.declared.command.LockedCommand.{LockedCommand}
-use Rattle.mem_system.specs.declared.command.LockedCommand.TheVariants.{Write}
-use Rattle.mem_system.specs.declared.command.ReplyWithText.{ReplyWithText}
-use Rattle.mem_system.specs.declared.command.ReplyWithText.TheVariants.{Refused}
+use Rattle.mem_system.specs.declared.text_command.TextCommand.TheVariants.{Write}
+use Rattle.mem_system.specs.declared.outcome.Outcome.{Outcome}
+use Rattle.mem_system.specs.declared.outcome.Outcome.TheVariants.{Refused}
 use Rattle.mem_system.specs.Commands.{ListStaysWithin}
 use Rattle.boot_words.specs.{words_in, zone_of_boot}
 use Rattle.boot_words.specs.Words.{Words}
 use Rattle.mem_system.specs.Ends.{Closes, HasEmptyWords, KnownEmptiedBoot}
 use Rattle.mem_system.specs.Releases.{ReleasesFrame}
+use Rattle.mem_system.specs.TextCommands.{ServesText}
 use Rattle.mem_system.specs.Visits.{Transition, LockedState, Serves}
 
 -- all kills among the steps of a visit are the command's own: neither settling nor the visit itself kills a group
 abbrev pub OnlyCommandsKill : Type 0
 OnlyCommandsKill =
-    (cmd : LockedCommand) (reply : ReplyWithText) (call : Transition LockedState) (served : Serves cmd reply call)
+    (cmd : LockedCommand) (outcome : Outcome) (call : Transition LockedState) (served : Serves cmd outcome call)
     → kills_in call.steps ≡ kills_in served.inner
 
 -- a Write that is refused changes nothing and makes no step, or it is one of memory.reclaim, refused with Again
 abbrev pub OnlyReclaimFallsShort : Type 0
 OnlyReclaimFallsShort =
-    (path file value : Bor (List ℕ)) (fault : Fault) (call : Transition LockedState)
-    (served : Serves (Write path file value) (Refused fault) call)
-    → ((served.done ≡ served.settled.machine) × (served.inner ≡ []))
+    (table : KnownTable) (path file value : Bor (List ℕ)) (fault : Fault) (before after : LockedState)
+    (served : ServesText table (Write path file value) (Refused fault) before after)
+    → ((served.visit.serves.done ≡ served.visit.serves.settled.machine) × (served.visit.serves.inner ≡ []))
     ⊎ ((file.now ≡ name_of_file Reclaim) × (fault ≡ Again))
 
 -- a Release leaves at most `high` frames in the CPU's list, if there were at most as many
 abbrev pub ReleasesCutLists : Type 0
 ReleasesCutLists =
-    (sizes : Config) (frame : ℕ) (reply : ReplyWithText) (call : Transition VisitState) → IsValidConfig sizes
-    → ReleasesFrame sizes frame reply call → ListStaysWithin sizes call.before.cpu call.after.cpu
+    (sizes : Config) (frame : ℕ) (outcome : Outcome) (call : Transition VisitState) → IsValidConfig sizes
+    → ReleasesFrame sizes frame outcome call → ListStaysWithin sizes call.before.cpu call.after.cpu
 
 -- these last words of a boot are empty: no CPU's words hold a page, and no frame's word counts more than the zone's
 -- reference

@@ -7,7 +7,7 @@ use Rattle.step_rules.specs.After.{Run}
 use Rattle.group_tree.specs.declared.group.Group.{Group}
 use Rattle.mem_alloc.specs.Laws.{ComesLast, TriesAllWithoutMin}
 use Rattle.mem_system.specs.declared.command.LockedCommand.{LockedCommand}
-use Rattle.mem_system.specs.declared.command.ReplyWithText.{ReplyWithText}
+use Rattle.mem_system.specs.declared.outcome.Outcome.{Outcome}
 use Rattle.mem_system.specs.Asks.{MayAskFor}
 use Rattle.mem_system.specs.Visits.{Transition, LockedState, Serves}
 
@@ -15,8 +15,8 @@ use Rattle.mem_system.specs.Visits.{Transition, LockedState, Serves}
 -- may ask for, except what memory.min keeps, before the first kill of the set that dies with the victim.
 abbrev pub CommandsKillLast : Type 0
 CommandsKillLast =
-    (cmd : LockedCommand) (reply : ReplyWithText) (call : Transition LockedState)
-    (served : Serves cmd reply call) (before rest : Run)
+    (cmd : LockedCommand) (outcome : Outcome) (call : Transition LockedState)
+    (served : Serves cmd outcome call) (before rest : Run)
     (made : Step × Answer) (group : ℕ) → served.inner ≡ before ++ made ∷ rest → made.0.action ≡ Kill group
     → ComesLast (MayAskFor cmd served.settled.machine.ledger.groups) call.table served.settled.machine before group
 

@@ -5,9 +5,6 @@ use Rattle.group_tree.specs.declared.fault.Fault.{Fault}
 use Rattle.group_charge.specs.Charges.{Ledger}
 use Rattle.control_files.specs.Files.{file_text}
 use Rattle.control_files.specs.Stat.{stat_text}
-use Rattle.boot_words.specs.Tables.{KnownTable}
-use Rattle.cpu_part.specs.Cpus.{KnownCpuLists}
-use Rattle.mem_machine.specs.{KnownMachine, Makes, VisitDoes, VisitState, Transition, BySteps}
 use Rattle.mem_system.specs.declared.outcome.Outcome.{Outcome}
 use Rattle.mem_system.specs.declared.outcome.Outcome.TheVariants as outcome
 use Rattle.mem_system.specs.declared.command.ReplyWithText.{ReplyWithText}
@@ -47,16 +44,3 @@ HasItsGroups ledger (outcome.Text group file) = IsTrue (has_group ledger.groups 
 HasItsGroups ledger (outcome.Charged group) = IsTrue (has_group ledger.groups group)
 HasItsGroups ledger (outcome.OverLimit group) = IsTrue (has_group ledger.groups group)
 HasItsGroups ledger other = Unit {0}
-
--- A call had this outcome: local steps lead from one visit state to another and do this, with the reply that the ledger
--- after them makes of the outcome.
-abbrev pub ComesTo : KnownTable → Outcome → (ReplyWithText → Transition VisitState → Type 0)
-    → KnownMachine → KnownCpuLists → KnownMachine → KnownCpuLists → Type 0
-ComesTo table outcome Does machine cpu machine_after cpu_after =
-    VisitDoes table (Does (reply_of machine_after.ledger outcome)) machine cpu machine_after cpu_after
-
--- the same for a call on the machine alone
-abbrev pub ComesToAlone : KnownTable → Outcome → (ReplyWithText → Transition KnownMachine → Type 0)
-    → (before after : KnownMachine) → Type 0
-ComesToAlone table outcome Does before after =
-    BySteps Makes table (Does (reply_of after.ledger outcome)) before after

@@ -6,8 +6,8 @@ use Rattle.step_rules.specs.After.{Run}
 use Rattle.mem_machine.specs.declared.releasing.Released.TheVariants as released
 use Rattle.mem_machine.specs.{KnownMachine, VisitState, visit_state, LeavesReferences, ReturnsUnit, release_steps, LendsFrame, UnlistsMany}
 use Rattle.mem_machine.specs.{lend_steps, drain_list_steps, Transition, OfMachineAlone, Stays, transition}
-use Rattle.mem_system.specs.declared.command.ReplyWithText.{ReplyWithText}
-use Rattle.mem_system.specs.declared.command.ReplyWithText.TheVariants.{Left, Returned, Refused}
+use Rattle.mem_system.specs.declared.outcome.Outcome.{Outcome}
+use Rattle.mem_system.specs.declared.outcome.Outcome.TheVariants.{Left, Returned, Refused}
 use Rattle.mem_system.specs.Units.{HeadsNoUnit}
 
 -- if the CPU's list has at least `high` frames, `batch` frames from its front are freed; else nothing changes
@@ -45,7 +45,7 @@ pub record LeavesUnit (frame left : ℕ) (call : Transition VisitState) : Type 0
   pub steps_are : call.steps ≡ release_steps frame (released.Left left)
 
 -- Release: references of CPUs are left, the unit is freed, or the frame heads no kept unit
-abbrev pub ReleasesFrame : Config → (frame : ℕ) → ReplyWithText → Transition VisitState → Type 0
+abbrev pub ReleasesFrame : Config → (frame : ℕ) → Outcome → Transition VisitState → Type 0
 ReleasesFrame sizes frame (Left left) call = LeavesUnit frame left call
 ReleasesFrame sizes frame Returned call = ReturnsFrames sizes frame call
 ReleasesFrame sizes frame (Refused NotKept) call = OfMachineAlone (HeadsNoUnit frame) call

@@ -2,7 +2,7 @@
 use Rattle.std.specs.Prelude.{◌≡◌, ℕ, List, Option, Some, None}
 use Rattle.boot_words.specs.Tables.{KnownTable}
 use Rattle.mem_system.specs.declared.command.LockedCommand.TheVariants.{Settle}
-use Rattle.mem_system.specs.declared.command.ReplyWithText.TheVariants.{Done}
+use Rattle.mem_system.specs.declared.outcome.Outcome.TheVariants.{Done}
 use Rattle.machine_texts.specs.Units.{ReadsUnits}
 use Rattle.mem_machine.specs.Machines.{KnownMachine}
 use Rattle.mem_system.specs.Cpus.{CpuInRun}

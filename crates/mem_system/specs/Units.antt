@@ -3,8 +3,8 @@ use Rattle.std.specs.Prelude.{◌≡◌, ℕ, Bool, None, []}
 use Rattle.group_tree.specs.declared.fault.Fault.TheVariants.{NotKept}
 use Rattle.lru_lists.specs.declared.lru.Touched.TheVariants as touched
 use Rattle.mem_machine.specs.{KnownMachine, HeadsKeptUnit, home_of, TouchesUnit, Dirties, Transition, MachineStays}
-use Rattle.mem_system.specs.declared.command.ReplyWithText.{ReplyWithText}
-use Rattle.mem_system.specs.declared.command.ReplyWithText.TheVariants.{Done, Marked, Active, Refused}
+use Rattle.mem_system.specs.declared.outcome.Outcome.{Outcome}
+use Rattle.mem_system.specs.declared.outcome.Outcome.TheVariants.{Done, Marked, Active, Refused}
 
 -- the frame found has this number, and heads a kept unit
 pub record IsUnitOf (machine : KnownMachine) (number found : ℕ) : Type 0 where
@@ -24,14 +24,14 @@ pub record MakesNoStep (Does : Transition KnownMachine → Type 0) (call : Trans
 
 -- Touch: the unit is marked, on the inactive list; or it moved, unmarked, to the newest end of the active list; or the
 -- frame heads no kept unit
-abbrev pub TouchesFrame : (frame : ℕ) → ReplyWithText → Transition KnownMachine → Type 0
+abbrev pub TouchesFrame : (frame : ℕ) → Outcome → Transition KnownMachine → Type 0
 TouchesFrame frame Marked call = TouchesUnit frame touched.Marked call.before call.after
 TouchesFrame frame Active call = TouchesUnit frame touched.Active call.before call.after
 TouchesFrame frame (Refused NotKept) call = HeadsNoUnit frame call
 TouchesFrame frame other call = ⊥
 
 -- Dirty and Clean: the unit is noted as dirty or clean, or the frame heads no kept unit
-abbrev pub NotesDirt : (frame : ℕ) (is_dirty : Bool) → ReplyWithText → Transition KnownMachine → Type 0
+abbrev pub NotesDirt : (frame : ℕ) (is_dirty : Bool) → Outcome → Transition KnownMachine → Type 0
 NotesDirt frame is_dirty Done call = Dirties frame is_dirty call.before call.after
 NotesDirt frame is_dirty (Refused NotKept) call = HeadsNoUnit frame call
 NotesDirt frame is_dirty other call = ⊥

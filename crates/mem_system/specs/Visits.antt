@@ -1,9 +1,7 @@
 -- How a command is served: in a visit of its CPU, under the lock.
-use Rattle.std.specs.Prelude.{◌≡◌, ℕ, false, Some, List, [], ◌++◌}
-use Rattle.std.specs.Borrow.{Bor}
+use Rattle.std.specs.Prelude.{◌≡◌, ℕ, false, [], ◌++◌}
 use Rattle.zone_blocks.specs.declared.config.Config.{Config}
 use Rattle.boot_words.specs.Pasts.{Locks, Unlocks}
-use Rattle.group_tree.specs.Groups.{number_at}
 use Rattle.step_rules.specs.After.{Run}
 use Rattle.boot_words.specs.Tables.{KnownTable}
 use Rattle.mem_machine.specs.{KnownMachine, with_run, without_notes, VisitState, visit_state, Holds, IsShut, Makes, KnownRun, Settles, settle_steps}
@@ -14,14 +12,11 @@ pub use Rattle.mem_machine.specs.Transitions.{Transition, transition}
 use Rattle.mem_reclaim.specs.Moves.{CountsMisses}
 use Rattle.mem_alloc.specs.NoRash.{NoRashKill}
 use Rattle.mem_system.specs.declared.command.LockedCommand.{LockedCommand}
-use Rattle.mem_system.specs.declared.command.LockedCommand.TheVariants.{Alloc}
-use Rattle.mem_system.specs.declared.command.ReplyWithText.{ReplyWithText}
 use Rattle.mem_system.specs.declared.outcome.Outcome.{Outcome}
-use Rattle.mem_system.specs.Outcomes.{reply_of}
 use Rattle.mem_system.specs.Locked.{KnownLocked, IsSound}
 use Rattle.mem_system.specs.Asks.{MayAskFor}
 use Rattle.mem_system.specs.Cpus.{CpuInRun, VisitsInRun}
-use Rattle.mem_system.specs.Commands.{Executes, ListAndFreshStayWithin}
+use Rattle.mem_system.specs.Commands.{Executes, ListAndFreshStayWithin, NamesWhatExists}
 
 -- the visit state after all earlier notes are forgotten
 abbrev pub begun : VisitState → VisitState
@@ -50,15 +45,16 @@ visit_steps table before inner =
     open_steps before.cpu.number ++ (settle_steps table before ++ (inner ++ shut_steps before.cpu.number))
 
 -- A command under the lock. Earlier notes are forgotten, the caller's visit is opened, the caller is settled, the
--- command is executed, and the visit is shut. The command kills a group only after it tried everything else that
+-- command is executed, and the visit is shut. What the command names exists. The command kills a group only after it tried everything else that
 -- memory.min doesn't keep, and only its own steps kill. The misses that are noted are those among its steps.
-pub record Serves (cmd : LockedCommand) (reply : ReplyWithText) (call : Transition LockedState) : Type 0 where
+pub record Serves (cmd : LockedCommand) (outcome : Outcome) (call : Transition LockedState) : Type 0 where
   pub settled : VisitState
   pub seen : KnownRun
   pub settles : Settles call.table (with_run_at (begun (visit_state_of call.before)) seen) settled
+  pub names : NamesWhatExists call.table settled.machine.ledger.groups cmd
   pub inner : Run
   pub done : KnownMachine
-  pub executes : Executes call.before.locked.sizes cmd reply
+  pub executes : Executes call.before.locked.sizes cmd outcome
       (transition call.table settled inner (visit_state done call.after.cpu.part))
   pub no_rash : NoRashKill call.table (MayAskFor cmd settled.machine.ledger.groups) settled.machine inner
   pub only_inner : has_kill (visit_steps call.table (visit_state_of call.before) []) ≡ false
@@ -81,13 +77,13 @@ pub record ReleasesLock (table : KnownTable) (left : KnownRun) (after : LockedSt
   pub watch : after.locked.machine.run.watch ≡ left.watch
   pub unlocks : Unlocks table left.past after.locked.machine.run.past after.cpu.past
 
--- A command was served under the lock with this reply. The CPU took the lock, and found this run. It opened its visit by
+-- A command was served under the lock with this outcome. The CPU took the lock, and found this run. It opened its visit by
 -- the first of these steps. They lead from the machine with that run to the machine with the run that the CPU left, and the
 -- machine's counts follow them. Then the CPU released the lock.
-pub record IsServed (table : KnownTable) (cmd : LockedCommand) (reply : ReplyWithText)
+pub record IsServed (table : KnownTable) (cmd : LockedCommand) (outcome : Outcome)
     (before after : LockedState) : Type 0 where
   pub steps : Run
-  pub serves : Serves cmd reply (transition table before steps after)
+  pub serves : Serves cmd outcome (transition table before steps after)
   pub found : KnownRun
   pub left : KnownRun
   pub taken : TakesLock table before found
@@ -97,18 +93,6 @@ pub record IsServed (table : KnownTable) (cmd : LockedCommand) (reply : ReplyWit
   pub released : ReleasesLock table left after
   pub run : VisitsInRun before.cpu.part.number steps before.locked.machine.run.past before.cpu.past
       after.locked.machine.run.past after.cpu.past
-
--- a command was carried out under the lock with this outcome; its reply is what the charges after it make of the
--- outcome
-abbrev pub ServesOutcome : KnownTable → LockedCommand → Outcome → (before after : LockedState) → Type 0
-ServesOutcome table cmd outcome before after =
-    IsServed table cmd (reply_of after.locked.machine.ledger outcome) before after
-
--- an Alloc of order 0 was carried out for the group, whichever of its paths names it
-abbrev pub ServesFrameOutcome : KnownTable → (group : ℕ) → Outcome → (before after : LockedState) → Type 0
-ServesFrameOutcome table group outcome before after =
-    (path : Bor (List ℕ)) → number_at before.locked.machine.ledger.groups path.now ≡ Some group
-    → ServesOutcome table (Alloc path 0) outcome before after
 
 -- What a visit leaves. If the CPU's list had at most `high` frames, its list and its fresh frames together have at most
 -- `high`. The CPU has seen its stock as it is.

@@ -1,11 +1,11 @@
-//! Allocating frames and blocks for the group of a path.
+//! Allocating frames and blocks for a group.
 
 ghost use Rattle.std.specs.Prelude.{◌≡◌, ℕ, IsTrue, Err};
 ghost use Rattle.group_tree.specs.Groups.{has_group};
 ghost use Rattle.mem_machine.specs.Local.{KeepsVisit, VisitDoes};
 ghost use Rattle.mem_alloc.specs.declared.faults.AllocFault.TheVariants as cause_is;
 ghost use Rattle.mem_system.specs.Allocations.{Allocates, AllocatesAs, FreshOf, outcome_of};
-ghost use Rattle.mem_system.specs.Outcomes.{ComesTo, HasItsGroups, reply_of};
+ghost use Rattle.mem_system.specs.Outcomes.{HasItsGroups};
 ghost use Rattle.mem_system.specs.Commands.{ListAndFreshStayWithin, MayExecute};
 
 use crate::outcome::Outcome;
@@ -46,7 +46,7 @@ fn allocate_as<N: BootName>(
     ensures allocates { VisitDoes N.table (AllocatesAs sizes group order result)
         machine.old cpu.old machine.new cpu.new }
     ensures stays { KeepsVisit N.table cpu.old machine.new cpu.new }
-    ensures fresh { FreshOf (reply_of machine.new.ledger (outcome_of result)) order cpu.new.fresh }
+    ensures fresh { FreshOf (outcome_of result) order cpu.new.fresh }
     ensures at_most_high { ListAndFreshStayWithin sizes cpu.old cpu.new }
     ensures there { (g : ℕ) → result ≡ Err (cause_is.Over g) → IsTrue (has_group machine.new.ledger.groups g) }
 {
@@ -57,26 +57,24 @@ fn allocate_as<N: BootName>(
     }
 }
 
-// Allocates frames of this order for the group of the path.
+// Allocates frames of this order for the group.
 pub(crate) fn allocate<N: BootName>(
     machine: &mut Machine<N>,
     tables: &Tables<N>,
     cpu: &mut CpuLists<N>,
     sizes: Config,
-    path: &[u8],
+    group: GroupId,
     order: u32,
 ) -> Outcome
     requires visit { MayExecute N.table sizes machine.old cpu.old }
-    ensures allocates { ComesTo N.table result (Allocates sizes path.now order)
+    requires there { IsTrue (has_group machine.old.ledger.groups group) }
+    ensures allocates { VisitDoes N.table (Allocates sizes group order result)
         machine.old cpu.old machine.new cpu.new }
     ensures groups { HasItsGroups machine.new.ledger result }
     ensures stays { KeepsVisit N.table cpu.old machine.new cpu.new }
-    ensures fresh { FreshOf (reply_of machine.new.ledger result) order cpu.new.fresh }
+    ensures fresh { FreshOf result order cpu.new.fresh }
     ensures at_most_high { ListAndFreshStayWithin sizes cpu.old cpu.new }
 {
-    let Some(group) = machine.charges().tree().find(path) else {
-        return Outcome::Refused(Fault::NoGroup);
-    };
     let Some(order) = Order::of(order) else {
         return Outcome::Refused(Fault::BadOrder);
     };

@@ -1,10 +1,11 @@
 //! Making and removing groups.
 
-ghost use Rattle.std.specs.Prelude.{MatchResult};
+ghost use Rattle.std.specs.Prelude.{IsTrue, MatchResult};
+ghost use Rattle.group_tree.specs.Groups.{has_group};
 ghost use Rattle.boot_words.specs.Pasts.{IsHeld};
-ghost use Rattle.mem_machine.specs.Local.{StaysVisited};
-ghost use Rattle.mem_system.specs.Leaves.{IsLeafAt, HasNoLeaf};
-ghost use Rattle.mem_system.specs.Outcomes.{ComesToAlone, HasItsGroups};
+ghost use Rattle.mem_machine.specs.{BySteps, Makes, StaysVisited};
+ghost use Rattle.mem_system.specs.Leaves.{IsLeaf, IsNoLeaf};
+ghost use Rattle.mem_system.specs.Outcomes.{HasItsGroups};
 ghost use Rattle.mem_system.specs.Groups.{MakesGroup, Removes};
 
 use crate::outcome::Outcome;
@@ -22,7 +23,7 @@ pub(crate) fn make_group<N: BootName>(
     path: &[u8],
 ) -> Outcome
     requires held { IsHeld N.table machine.old.run.past }
-    ensures made { ComesToAlone N.table result (MakesGroup path.now) machine.old machine.new }
+    ensures made { BySteps Makes N.table (MakesGroup path.now result) machine.old machine.new }
     ensures groups { HasItsGroups machine.new.ledger result }
     ensures visit { StaysVisited N.table machine.old machine.new }
 {
@@ -32,39 +33,36 @@ pub(crate) fn make_group<N: BootName>(
     }
 }
 
-// The group of the path, if it isn't the root and has no child.
-fn find_leaf(charges: &Charges, path: &[u8]) -> Result<GroupId, Fault>
-    ensures { MatchResult result (IsLeafAt charges.now.groups path.now) (HasNoLeaf charges.now.groups path.now) }
+// Refuses to remove the root, and a group with a child.
+fn check_leaf(charges: &Charges, group: GroupId) -> Result<(), Fault>
+    requires there { IsTrue (has_group charges.now.groups group) }
+    ensures { MatchResult result (λ ok. IsLeaf charges.now.groups group) (IsNoLeaf charges.now.groups group) }
 {
-    let tree = charges.tree();
-    let Some(group) = tree.find(path) else {
-        return Err(Fault::NoGroup);
-    };
     if group == GroupId::root() {
         return Err(Fault::BadName);
     }
-    if tree.has_child(group) {
+    if charges.tree().has_child(group) {
         return Err(Fault::HasChildren);
     }
-    Ok(group)
+    Ok(())
 }
 
-// Lowers the usage of the group of the path as far as possible, and removes the group if nothing is charged to it then.
-// The group has no child, so all of its usage is its own.
+// Lowers the usage of the group as far as possible, and removes the group if nothing is charged to it then. The group
+// has no child, so all of its usage is its own.
 pub(crate) fn remove_group<N: BootName>(
     machine: &mut Machine<N>,
     tables: &Tables<N>,
-    path: &[u8],
+    group: GroupId,
 ) -> Outcome
+    requires there { IsTrue (has_group machine.old.ledger.groups group) }
     requires held { IsHeld N.table machine.old.run.past }
-    ensures removed { ComesToAlone N.table result (Removes path.now) machine.old machine.new }
+    ensures removed { BySteps Makes N.table (Removes group result) machine.old machine.new }
     ensures groups { HasItsGroups machine.new.ledger result }
     ensures visit { StaysVisited N.table machine.old machine.new }
 {
-    let group = match find_leaf(machine.charges(), path) {
-        Ok(group) => group,
-        Err(fault) => return Outcome::Refused(fault),
-    };
+    if let Err(fault) = check_leaf(machine.charges(), group) {
+        return Outcome::Refused(fault);
+    }
     lower_usage(machine, tables, group, 0);
     if machine.current(group) > 0 {
         return Outcome::Refused(Fault::Busy);

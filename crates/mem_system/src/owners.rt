@@ -1,7 +1,7 @@
 //! The command Owner.
 
 ghost use Rattle.std.specs.Prelude.{◌<◌};
-ghost use Rattle.mem_system.specs.Outcomes.{HasItsGroups, reply_of};
+ghost use Rattle.mem_system.specs.Outcomes.{HasItsGroups};
 ghost use Rattle.mem_system.specs.Owners.{ReportsPlace};
 
 use crate::outcome::Outcome;
@@ -15,7 +15,7 @@ pub(crate) fn report_place<N: BootName>(
     frame: u32,
 ) -> Outcome
     requires { frame < N.table.frames }
-    ensures place { ReportsPlace machine.now frame (reply_of machine.now.ledger result) }
+    ensures place { ReportsPlace machine.now frame result }
     ensures groups { HasItsGroups machine.now.ledger result }
 {
     let frame = tables.words.frame(frame).unwrap();

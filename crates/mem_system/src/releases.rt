@@ -5,7 +5,7 @@ ghost use Rattle.zone_blocks.specs.Config.{IsValidConfig};
 ghost use Rattle.step_rules.specs.declared.phase.ChargedUnit.{ChargedUnit};
 ghost use Rattle.mem_machine.specs.declared.frame_state.FrameState.TheVariants.{Free, Head};
 ghost use Rattle.mem_machine.specs.{frame_state_at, KeepsVisit, VisitDoes, Visits};
-ghost use Rattle.mem_system.specs.Outcomes.{ComesTo, HasItsGroups};
+ghost use Rattle.mem_system.specs.Outcomes.{HasItsGroups};
 ghost use Rattle.mem_system.specs.Releases.{CutsList, ListsFrame, ReleasesFrame};
 ghost use Rattle.mem_system.specs.Commands.{ListStaysWithin};
 
@@ -82,7 +82,7 @@ pub(crate) fn release_frame<N: BootName>(
     requires sizes { IsValidConfig sizes }
     requires frame { frame < N.table.frames }
     requires none_fresh { cpu.old.fresh ≡ [] }
-    ensures released { ComesTo N.table result (ReleasesFrame sizes frame) machine.old cpu.old machine.new cpu.new }
+    ensures released { VisitDoes N.table (ReleasesFrame sizes frame result) machine.old cpu.old machine.new cpu.new }
     ensures groups { HasItsGroups machine.new.ledger result }
     ensures stays { KeepsVisit N.table cpu.old machine.new cpu.new }
     ensures fresh { cpu.new.fresh ≡ cpu.old.fresh }

@@ -6,13 +6,14 @@ ghost use Rattle.group_tree.specs.Groups.{number_at};
 ghost use Rattle.group_charge.specs.Charges.{AreCharges};
 ghost use Rattle.mem_machine.specs.Machines.{IsConsistent};
 ghost use Rattle.mem_system.specs.Locked.{IsQuiet, SeenBehindLock};
-ghost use Rattle.mem_system.specs.Commands.{IsOfZone, IsSettledAfter};
-ghost use Rattle.mem_system.specs.Visits.{IsServed, IsVisited};
+ghost use Rattle.mem_system.specs.TextCommands.{IsOfZone, RepliesTo};
+ghost use Rattle.mem_system.specs.Visits.{IsVisited};
 
-use crate::command::{LockedCommand, ReplyWithText};
+use crate::command::ReplyWithText;
 use crate::cpus::Cpu;
 use crate::gates::{Gate, NoGate};
 use crate::lock::Locked;
+use crate::text_command::TextCommand;
 use crate::visits::serve_into;
 use cpu_part::{BootName, Tables};
 use group_tree::group::GroupId;
@@ -146,13 +147,17 @@ impl<N: BootName> System<N> {
     /// some sound value was there, with the system's sizes, that `serve_into` did its work on it, and that a sound
     /// value was left.
     #[inline(always)]
-    pub fn visit<R: Wait>(&self, rt: &R, cpu: &mut Cpu<N>, cmd: &LockedCommand<'_>) -> ReplyWithText
-        requires { IsOfZone N.table cmd.now }
-        ensures served { IsVisited N.table self.now.sizes (IsServed N.table cmd.now result) cpu.old cpu.new }
-        ensures settled { IsSettledAfter cmd.now result cpu.new.part }
+    pub fn visit<R: Wait>(
+        &self,
+        rt: &R,
+        cpu: &mut Cpu<N>,
+        command: &TextCommand<'_>,
+    ) -> ReplyWithText
+        requires { IsOfZone N.table command.now }
+        ensures { IsVisited N.table self.now.sizes (RepliesTo N.table command.now result) cpu.old cpu.new }
     {
         let mut reply = ReplyWithText::Done;
-        self.visit_into(rt, cpu, cmd, &NoGate, &mut reply);
+        self.visit_into(rt, cpu, command, &NoGate, &mut reply);
         reply
     }
 
@@ -164,19 +169,18 @@ impl<N: BootName> System<N> {
         &self,
         rt: &R,
         cpu: &mut Cpu<N>,
-        cmd: &LockedCommand<'_>,
+        command: &TextCommand<'_>,
         gate: &G,
         reply: &mut ReplyWithText,
     )
-        requires { IsOfZone N.table cmd.now }
-        ensures served { IsVisited N.table self.now.sizes (IsServed N.table cmd.now reply.new) cpu.old cpu.new }
-        ensures settled { IsSettledAfter cmd.now reply.new cpu.new.part }
+        requires { IsOfZone N.table command.now }
+        ensures { IsVisited N.table self.now.sizes (RepliesTo N.table command.now reply.new) cpu.old cpu.new }
     {
         let mut guard = self.lock(rt);
         gate.inside(cpu.number());
         let locked = &mut *guard;
         locked.prove_quiet();
-        serve_into(locked, &self.tables, cpu, cmd, reply);
+        serve_into(locked, &self.tables, cpu, command, reply);
         locked.prove_quiet();
     }
 }

@@ -1,9 +1,9 @@
 //! Touching kept units, and noting them as dirty or clean.
 
 ghost use Rattle.std.specs.Prelude.{◌≡◌, ◌<◌, None, IfSome, IfNone};
-ghost use Rattle.mem_machine.specs.Machines.{home_of};
+ghost use Rattle.mem_machine.specs.{BySteps, Makes, home_of};
 ghost use Rattle.mem_system.specs.Units.{IsUnitOf, MakesNoStep, TouchesFrame, NotesDirt};
-ghost use Rattle.mem_system.specs.Outcomes.{ComesToAlone, HasItsGroups};
+ghost use Rattle.mem_system.specs.Outcomes.{HasItsGroups};
 
 use crate::outcome::Outcome;
 use cpu_part::{BootName, Tables};
@@ -36,7 +36,7 @@ pub(crate) fn touch_frame<N: BootName>(
     frame: u32,
 ) -> Outcome
     requires { frame < N.table.frames }
-    ensures touched { ComesToAlone N.table result (λ reply. MakesNoStep (TouchesFrame frame reply)) machine.old machine.new }
+    ensures touched { BySteps Makes N.table (MakesNoStep (TouchesFrame frame result)) machine.old machine.new }
     ensures groups { HasItsGroups machine.new.ledger result }
 {
     let Some(frame) = find_unit(machine, tables, frame) else {
@@ -56,7 +56,7 @@ pub(crate) fn note_dirt<N: BootName>(
     is_dirty: bool,
 ) -> Outcome
     requires { frame < N.table.frames }
-    ensures noted { ComesToAlone N.table result (λ reply. MakesNoStep (NotesDirt frame is_dirty reply)) machine.old machine.new }
+    ensures noted { BySteps Makes N.table (MakesNoStep (NotesDirt frame is_dirty result)) machine.old machine.new }
     ensures groups { HasItsGroups machine.new.ledger result }
 {
     let Some(frame) = find_unit(machine, tables, frame) else {

@@ -27,7 +27,7 @@ use Rattle.mem_history.proofs.Wholes.{lines_follow, parts_after, the_same_is_sho
 use Rattle.mem_history.proofs.Fast.{fast_lines_follow}
 use Rattle.mem_history.proofs.Leading.{fast_calls_lead}
 use Rattle.mem_system.specs.declared.command.LockedCommand.{LockedCommand}
-use Rattle.mem_system.specs.declared.command.ReplyWithText.{ReplyWithText}
+use Rattle.mem_system.specs.declared.outcome.Outcome.{Outcome}
 use Rattle.mem_system.specs.{CpuInRun, seat_of, KnownLocked, LockedState, locked_state, IsServed}
 use Rattle.mem_system.specs.Visits.{transition}
 use Rattle.reply_texts.specs.LineAnswer.{LineAnswer}
@@ -123,7 +123,7 @@ module _ (t : KnownTable) (run : Run) (locked : KnownLocked) (cpus : List KnownC
 
   -- served under the lock, by a CPU with this part, which found behind the lock what the run shows
   served_follows : (seen : CpuInRun) → seen.part ≡ c.part → (found : KnownLocked) → left_by t found.machine.run.past ≡ left_by t m.run.past
-      → found.machine.ledger ≡ m.ledger → (cmd : LockedCommand) (reply : ReplyWithText) (after : LockedState) → (is : IsServed t cmd reply (locked_state found seen) after)
+      → found.machine.ledger ≡ m.ledger → (cmd : LockedCommand) (reply : Outcome) (after : LockedState) → (is : IsServed t cmd reply (locked_state found seen) after)
       → IsLegalOn (under_lock seen.part.number is.steps) → Follows (under_lock seen.part.number is.steps) after
   served_follows seen same found left ledger cmd reply after is legal =
       let n = after.locked.machine in
@@ -215,13 +215,13 @@ module _ (t : KnownTable) (run : Run) (locked : KnownLocked) (cpus : List KnownC
       (answer : LineAnswer) (steps : Run) (after : LockedState) → IsServedUnderLock is_explained command answer (transition t seen steps after)
       → IsLegalOn steps → Follows steps after
   locked_follows is_explained seen saw same command answer steps after is legal =
-      let served = is.answers.served in
+      let served = is.answers.replies.serves.visit in
       as_made steps (under_lock seen.cpu.part.number served.steps) after is.steps_are
       (λ all. watched_follows (under_lock seen.cpu.part.number served.steps) (cpu_makes seen.cpu.part.number step.Unlock step_answer.Done ∷ []) is.left after is.unlock
       (served_follows seen.cpu same is.found
       (ap (λ (l : KnownLocked). left_by t l.machine.run.past) is.lock.locked ∙ saw.left)
       (ap (λ (l : KnownLocked). l.machine.ledger) is.lock.locked ∙ ap (λ (l : KnownLocked). l.machine.ledger) saw.locked)
-      is.answers.asked is.answers.reply (locked_state is.left after.cpu) served all)) legal
+      is.answers.replies.serves.served is.answers.replies.serves.given (locked_state is.left after.cpu) served all)) legal
 
   pub answer_follows : (is_explained : Bool) (command : Command) (steps : Run) (after : LockedState) (answer : LineAnswer)
       → AnswersCommand is_explained command (transition t before steps after) answer → IsLegalOn steps → Follows steps after

@@ -3,8 +3,8 @@ use Rattle.std.proofs.Common.{◌≡◌, ℕ, zero, suc, List, [], ◌∷◌, Al
 use Rattle.std.specs.Prelude.{IfSome}
 use Rattle.std.specs.List.{AllZip}
 use Rattle.zone_blocks.specs.declared.config.Config.{Config}
-use Rattle.mem_system.specs.Commands.{NamesFrameBelow}
-use Rattle.mem_system.specs.declared.command.LockedCommand.{LockedCommand}
+use Rattle.mem_system.specs.{NamesFrameBelow}
+use Rattle.mem_system.specs.declared.text_command.TextCommand.{TextCommand}
 use Rattle.script_lines.specs.declared.line.Command.{Command}
 use Rattle.script_lines.specs.declared.line.Command.TheVariants.{OnFrame}
 use Rattle.script_lines.specs.declared.line.FrameAct.TheVariants.{Owner}
@@ -29,8 +29,8 @@ named_below frames (OnFrame Owner frame) named = named
 named_below frames command named = search rules
 
 -- and what the machine's command names is in the zone
-pub locked_command_in_zone : (frames : ℕ) (command : Command) (cmd : LockedCommand) → locked_command_of command ≡ Some cmd → CommandInRange frames command → NamesFrameBelow frames cmd
-locked_command_in_zone frames command cmd is named = subst (λ (found : Option LockedCommand). IfSome found (NamesFrameBelow frames)) is (named_below frames command named)
+pub locked_command_in_zone : (frames : ℕ) (command : Command) (cmd : TextCommand) → locked_command_of command ≡ Some cmd → CommandInRange frames command → NamesFrameBelow frames cmd
+locked_command_in_zone frames command cmd is named = subst (λ (found : Option TextCommand). IfSome found (NamesFrameBelow frames)) is (named_below frames command named)
 
 -- a frame that has to be the head of a kept unit is one of the zone
 pub head_in_zone : (frames : ℕ) (command : Command) → CommandInRange frames command → IfSome (head_named command) (λ frame. frame < frames)

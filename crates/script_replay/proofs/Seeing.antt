@@ -44,7 +44,7 @@ module _ (t : KnownTable) (before : LockedState) (steps : Run) (after : LockedSt
   locked_seen : (is_explained : Bool) (command : Command) (seen : LockedState) (answer : LineAnswer) → OnlySaw t [] before.locked seen.locked
       → IsServedUnderLock is_explained command answer (transition t seen steps after) → SeesAll
   locked_seen is_explained command seen answer saw is =
-      let served = is.answers.served in
+      let served = is.answers.replies.serves.visit in
       let first : Run = cpu_makes seen.cpu.part.number step.Lock step_answer.Done ∷ [] in
       let last : Run = cpu_makes seen.cpu.part.number step.Unlock step_answer.Done ∷ [] in
       let a : KnownWatch = seen.locked.machine.run.watch in

@@ -1,5 +1,5 @@
 -- How one command is served, and how its answer is written. Serves `server`, `writer`, `serve_at_cpu`.
-use Rattle.std.proofs.Common.{◌≡◌, ◌≢◌, ◌∙◌, ℕ, zero, Bool, true, false, Option, Some, None, List, [], ◌++◌, Result, Ok, Err, IfOk, append_assoc, append-nil, ap, refl, subst, sym, ◌&&◌}
+use Rattle.std.proofs.Common.{◌≡◌, ◌≢◌, ◌∙◌, ℕ, zero, suc, Bool, true, false, Option, Some, None, List, [], ◌++◌, Result, Ok, Err, IfOk, append_assoc, append-nil, ap, refl, subst, sym, ◌&&◌}
 use Rattle.std.proofs.lemmas.Option.{none-some}
 use Rattle.std.specs.Borrow.{Bor}
 use Rattle.std.specs.declared.string.String.{String}
@@ -28,7 +28,7 @@ use Rattle.script_replay.specs.{IsTriedInVain, NeedsLock, OnlyWatched, ServesAns
 use Rattle.script_replay.specs.{steps_unlocked, OnlySettles, locked_command_of, frame_path, head_named, is_tried, path_removed, borrower_of, fault_in}
 use Rattle.script_replay.specs.{refusal_reason_text, reasoned_text, answer_of}
 use Rattle.script_replay.specs.Terms.{Terms}
-use Rattle.script_replay.proofs.Gaining.{saw_both, watched_gains, watched_saw}
+use Rattle.script_replay.proofs.Gaining.{gains_none, saw_both, saw_none, watched_gains, watched_saw}
 
 -- ---- served
 
@@ -69,6 +69,15 @@ module _ (on : Terms) (command : Command) (l m : KnownLocked) (c d : CpuInRun) w
       let here = subst (λ (x : LockedState). ServesUnderLock on.table on.is_explained command answer.Settled x (locked_state m d))
       (stays under.served.answers.is_answer.0) under in record { steps = here.steps; answered = here.served; gains = here.gains }
   lock_served seen (answer.Unlocked said) tried saw gains stays under = absurd under.served.answers.is_answer
+
+-- an allocation of a block isn't tried without the lock
+pub block_served : (on : Terms) (path : Bor (List ℕ)) (order : ℕ) (l m : KnownLocked) (c d : CpuInRun) (answer : LineAnswer) → order ≢ 0
+    → ServesUnderLock on.table on.is_explained (Alloc path order) answer (locked_state l c) (locked_state m d)
+    → ServesAnswer on (Alloc path order) (locked_state l c) (locked_state m d) answer
+block_served on path zero l m c d answer block under = absurd (block refl)
+block_served on path (suc less) l m c d answer block under =
+    lock_served on (Alloc path (suc less)) l m c d (locked_state l c) answer (refl, refl) (saw_none on.table l)
+    (gains_none (locked_state l c)) (λ settles. refl) under
 
 -- a frame that wasn't got is no step
 pub none_got : (n g : ℕ) (tried : FastAnswer) (before after : LockedState) → ((f : ℕ) → tried ≢ Got f)

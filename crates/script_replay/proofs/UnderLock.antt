@@ -12,7 +12,7 @@ use Rattle.step_rules.specs.declared.step.Action.TheVariants.{Lock, Unlock}
 use Rattle.step_rules.specs.declared.step.Answer.TheVariants as step_answer
 use Rattle.mem_history.specs.Whole.{under_lock}
 use Rattle.mem_system.specs.declared.command.LockedCommand.{LockedCommand}
-use Rattle.mem_system.specs.declared.command.ReplyWithText.{ReplyWithText}
+use Rattle.mem_system.specs.declared.outcome.Outcome.{Outcome}
 use Rattle.mem_system.specs.{CpuInRun, KnownLocked, IsServed, locked_state}
 use Rattle.reply_texts.specs.LineAnswer.{LineAnswer}
 use Rattle.script_lines.specs.declared.line.Command.{Command}
@@ -42,7 +42,7 @@ module _ (t : KnownTable) (is_explained : Bool) (command : Command) (before foun
     (in_run : (own_past c.past).number ≡ c.part.number) (zone : (own_past before.machine.run.past).number ≡ 0)
     (lock : OnlyWatched (cpu_makes number Lock step_answer.Done ∷ []) (locked_with_detail_notes before is_explained) found) (unlock : OnlyWatched (cpu_makes number Unlock step_answer.Done ∷ []) left after) where
   -- the zone's past and the CPU's gained the steps, which the watch took
-  visit_made : (asked : LockedCommand) (reply : ReplyWithText) → (served : IsServed t asked reply (locked_state found c) (locked_state left d))
+  visit_made : (asked : LockedCommand) (reply : Outcome) → (served : IsServed t asked reply (locked_state found c) (locked_state left d))
       → Gains (under_lock c.part.number served.steps) (locked_state before c) (locked_state after d)
   visit_made asked reply served =
       let p = c.part.number in
@@ -59,7 +59,7 @@ module _ (t : KnownTable) (is_explained : Bool) (command : Command) (before foun
   served_locked : (answer : LineAnswer) → AnswersLocked t command answer (locked_state found c) (locked_state left d)
       → ServesUnderLock t is_explained command answer (locked_state before c) (locked_state after d)
   served_locked answer answers = record {
-    steps = under_lock c.part.number answers.served.steps;
+    steps = under_lock c.part.number answers.replies.serves.visit.steps;
     served = record {
       found = found;
       left = left;
@@ -68,7 +68,7 @@ module _ (t : KnownTable) (is_explained : Bool) (command : Command) (before foun
       unlock = subst (λ (n : ℕ). OnlyWatched (cpu_makes n Unlock step_answer.Done ∷ []) left after) named unlock;
       steps_are = refl;
     };
-    gains = visit_made answers.asked answers.reply answers.served;
+    gains = visit_made answers.replies.serves.served answers.replies.serves.given answers.replies.serves.visit;
   }
 
   -- the charges are those that the command left

@@ -7,7 +7,7 @@ use Rattle.step_rules.specs.After.{Run}
 use Rattle.boot_words.specs.Tables.{KnownTable}
 use Rattle.mem_system.specs.{CpuInRun, between_locks, KnownSystem, IsSound, KnownLocked, IsServed, locked_state}
 use Rattle.mem_system.specs.declared.command.LockedCommand.{LockedCommand}
-use Rattle.mem_system.specs.declared.command.ReplyWithText.{ReplyWithText}
+use Rattle.mem_system.specs.declared.outcome.Outcome.{Outcome}
 use Rattle.reply_texts.specs.Answers.{unlocked_text}
 use Rattle.reply_texts.specs.LineAnswer.{LineAnswer}
 use Rattle.reply_texts.specs.declared.steps.UnlockedAnswer.{UnlockedAnswer}
@@ -25,7 +25,7 @@ use Rattle.script_replay.proofs.Serving.{only_settles, untried}
 -- ---- the steps
 
 -- a visit in which a command was served
-pub served_grew : (t : KnownTable) (cmd : LockedCommand) (reply : ReplyWithText) (l m : KnownLocked) (c d : CpuInRun)
+pub served_grew : (t : KnownTable) (cmd : LockedCommand) (reply : Outcome) (l m : KnownLocked) (c d : CpuInRun)
     → (is : IsServed t cmd reply (locked_state l c) (locked_state m d)) → GrewByChanges c.past (between_locks c.part.number is.steps) d.past
 served_grew t cmd reply l m c d is = all_grew c.past (between_locks c.part.number is.steps) d.past is.run.cpu_grew
 
@@ -76,7 +76,7 @@ module _ (on : KnownSystem) (command : Command) (c d : CpuInRun) where
           tells = inr (record { seen = seen; needs = needs; writes = is.1 });
           grew = grew_both c.past [] seen.past is.0 d.past needs.grew
               (subst (λ (r : Run). GrewByChanges seen.past r d.past) (sym is.1.steps_are)
-              (served_grew on.table visit.served.asked visit.served.reply visit.found visit.left seen d visit.served.served));
+              (served_grew on.table visit.served.replies.serves.served visit.served.replies.serves.given visit.found visit.left seen d visit.served.replies.serves.visit));
         },
       )
 
@@ -85,7 +85,7 @@ pub visit_written : (on : KnownSystem) (command : Command) (l m : KnownLocked) (
     → l.sizes ≡ on.sizes → IsSound on.table l → AnswersLocked on.table command answer (locked_state l c) (locked_state m d) → IsSound on.table m
     → IsAnswerText on.table false command answer text (locked_state m d) → (steps : Run) × WritesByVisit on command steps c d text
 visit_written on command l m c d answer text sized before answers left told = (
-  between_locks c.part.number answers.served.steps,
+  between_locks c.part.number answers.replies.serves.visit.steps,
   record {
     answer = answer;
     visited = record { found = l; left = m; sizes_are = sized; sound_before = before; served = answers; sound_after = left };
@@ -94,7 +94,7 @@ visit_written on command l m c d answer text sized before answers left told = (
   },
 )
 
--- a command without a `LockedCommand` that needs a visit only settles its CPU
+-- a command without a `TextCommand` that needs a visit only settles its CPU
 pub visit_settles : (on : KnownSystem) (command : Command) (c seen : CpuInRun) → TriesInVain on command c seen → locked_command_of command ≡ None
     → OnlySettles command
 visit_settles on (Alloc path order) c seen tried none = absurd (none-some _ (sym none))

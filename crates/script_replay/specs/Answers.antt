@@ -21,10 +21,10 @@ use Rattle.step_watch.specs.Watched.{KnownWatch, Watches}
 use Rattle.machine_texts.specs.{explanation_text, blocks_text, show_text, stock_line_text}
 use Rattle.mem_machine.specs.{KnownMachine, left_by, with_run, with_detail_notes, with_watch, KnownRun}
 use Rattle.mem_history.specs.{under_lock, put_answer}
-use Rattle.mem_system.specs.declared.command.LockedCommand.{LockedCommand}
-use Rattle.mem_system.specs.declared.command.LockedCommand.TheVariants as cmd
+use Rattle.mem_system.specs.declared.text_command.TextCommand.{TextCommand}
+use Rattle.mem_system.specs.declared.text_command.TextCommand.TheVariants as cmd
 use Rattle.mem_system.specs.declared.command.ReplyWithText.{ReplyWithText}
-use Rattle.mem_system.specs.{CpuInRun, KnownLocked, UnitsAt, LockedState, locked_state, IsServed}
+use Rattle.mem_system.specs.{CpuInRun, KnownLocked, UnitsAt, LockedState, locked_state, RepliesTo}
 use Rattle.mem_system.specs.Visits.{Transition, transition}
 use Rattle.reply_texts.specs.LineAnswer.{LineAnswer}
 use Rattle.reply_texts.specs.LineAnswer as answer
@@ -194,9 +194,9 @@ ServesUnlocked command call answer =
 
 -- ---- under the lock
 
--- what a command is answered that is served under the lock: the reply to its `LockedCommand`, or that its CPU was only
+-- what a command is answered that is served under the lock: the reply to its `TextCommand`, or that its CPU was only
 -- settled
-abbrev pub IsAnswerOf : Command → (asked : LockedCommand) (reply : ReplyWithText) → LineAnswer → Type 0
+abbrev pub IsAnswerOf : Command → (asked : TextCommand) (reply : ReplyWithText) → LineAnswer → Type 0
 IsAnswerOf command asked reply (answer.Served said) = (locked_command_of command ≡ Some asked) × (said ≡ reply)
 IsAnswerOf command asked reply answer.Settled = OnlySettles command × (asked ≡ cmd.Settle)
 IsAnswerOf command asked reply (answer.Unlocked said) = ⊥
@@ -204,10 +204,10 @@ IsAnswerOf command asked reply (answer.Unlocked said) = ⊥
 -- the command was served under the lock with this answer
 pub record AnswersLocked (table : KnownTable) (command : Command) (answer : LineAnswer) (before after : LockedState)
     : Type 0 where
-  pub asked : LockedCommand
+  pub asked : TextCommand
   pub reply : ReplyWithText
   pub is_answer : IsAnswerOf command asked reply answer
-  pub served : IsServed table asked reply before after
+  pub replies : RepliesTo table asked reply before after
 
 -- ---- with what lies behind the lock: no lock is taken by value, but in the history the steps are between a Lock and
 -- an Unlock, which the watch takes
@@ -225,7 +225,7 @@ pub record IsServedUnderLock (is_explained : Bool) (command : Command) (answer :
       (locked_state found call.before.cpu) (locked_state left call.after.cpu)
   pub unlock : OnlyWatched (cpu_makes call.before.cpu.part.number step.Unlock step_answer.Done ∷ [])
       left call.after.locked
-  pub steps_are : call.steps ≡ under_lock call.before.cpu.part.number answers.served.steps
+  pub steps_are : call.steps ≡ under_lock call.before.cpu.part.number answers.replies.serves.visit.steps
 
 -- the command of a CPU was served under the lock with this answer, by some steps
 pub record ServesUnderLock (table : KnownTable) (is_explained : Bool) (command : Command) (answer : LineAnswer)

@@ -1,8 +1,8 @@
 -- What a command of a script is under the lock, and what it names.
 use Rattle.std.specs.Prelude.{ℕ, zero, Bool, true, false, List, [], Option, Some, None}
 use Rattle.std.specs.Borrow.{Bor}
-use Rattle.mem_system.specs.declared.command.LockedCommand.{LockedCommand}
-use Rattle.mem_system.specs.declared.command.LockedCommand.TheVariants as cmd
+use Rattle.mem_system.specs.declared.text_command.TextCommand.{TextCommand}
+use Rattle.mem_system.specs.declared.text_command.TextCommand.TheVariants as cmd
 use Rattle.script_lines.specs.declared.line.Command.{Command}
 use Rattle.script_lines.specs.declared.line.Command.TheVariants.{Mkdir, Rmdir, Write, Read, Alloc, Fast, Release, Get, Put}
 use Rattle.script_lines.specs.declared.line.Command.TheVariants.{OnFrame, Settle, Blocks, Show, Stock, Units}
@@ -10,15 +10,15 @@ use Rattle.script_lines.specs.declared.line.FrameAct.{FrameAct}
 use Rattle.script_lines.specs.declared.line.FrameAct.TheVariants.{Touch, Dirty, Clean, Owner}
 
 -- the command that is this act on this frame
-abbrev pub act_on : FrameAct → ℕ → LockedCommand
+abbrev pub act_on : FrameAct → ℕ → TextCommand
 act_on Touch frame = cmd.Touch frame
 act_on Dirty frame = cmd.Dirty frame
 act_on Clean frame = cmd.Clean frame
 act_on Owner frame = cmd.Owner frame
 
--- The command of the machine that is served under the lock, and whose reply is the answer. An Alloc of a single frame
+-- The command that is served under the lock, as its texts give it, and whose reply is the answer. An Alloc of a single frame
 -- and a Release are tried without the lock before. All others need no lock, or only settle their CPU.
-abbrev pub locked_command_of : Command → Option LockedCommand
+abbrev pub locked_command_of : Command → Option TextCommand
 locked_command_of (Mkdir path) = Some (cmd.Mkdir path)
 locked_command_of (Rmdir path) = Some (cmd.Rmdir path)
 locked_command_of (Write path file value) = Some (cmd.Write path file value)

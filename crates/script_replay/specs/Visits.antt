@@ -86,7 +86,7 @@ pub record WritesByVisit (system : KnownSystem) (command : Command) (steps : Run
   pub answer : LineAnswer
   pub visited : IsVisited system.table system.sizes (AnswersLocked system.table command answer)
       before after
-  pub steps_are : steps ≡ between_locks before.part.number visited.served.served.steps
+  pub steps_are : steps ≡ between_locks before.part.number visited.served.replies.serves.visit.steps
   pub told : IsAnswerText system.table false command answer text (locked_state visited.left after)
 
 -- the text of a command that was answered without a visit

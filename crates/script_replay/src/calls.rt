@@ -11,7 +11,7 @@ ghost use Rattle.script_replay.specs.ValueAnswers.{NamesItsGroups, SaysCommand, 
 
 use crate::answer_value::AnswerValue;
 use crate::replays::prove_sound;
-use crate::server::{serve_command, serve_frame_of};
+use crate::server::{serve_alloc_of, serve_command};
 use cpu_part::{BootName, Tables};
 use group_tree::group::GroupId;
 use mem_system::{Cpu, Locked};
@@ -43,8 +43,8 @@ pub fn serve_value<N: BootName>(
     value
 }
 
-/// Takes a single frame for an existing group, at the CPU of this number, as `serve_value` serves an Alloc of order 0
-/// for each path of that group. It looks up no path. No memory is taken.
+/// Serves an Alloc of this order for an existing group, at the CPU of this number, as `serve_value` does for each path of
+/// that group. It looks up no path. No memory is taken.
 #[inline(always)]
 pub fn alloc_value<N: BootName>(
     locked: &mut Locked<N>,
@@ -52,18 +52,19 @@ pub fn alloc_value<N: BootName>(
     cpus: &mut [Cpu<N>],
     cpu: u32,
     group: GroupId,
+    order: u32,
 ) -> AnswerValue
     requires low { 1 ≤ cpu }
     requires high { cpu ≤ length cpus.old }
     requires there { IsTrue (has_group locked.old.machine.ledger.groups group) }
     ensures answer { (path : Bor (List ℕ)) → number_at locked.old.machine.ledger.groups path.now ≡ Some group
-        → SaysCommand N.table cpu (Alloc path 0)
+        → SaysCommand N.table cpu (Alloc path order)
         (system_state locked.old cpus.old) (system_state locked.new cpus.new)
         (answer_of locked.new.machine.ledger result) }
     ensures groups { NamesItsGroups locked.new.machine.ledger result }
 {
     let at = (cpu - 1) as usize;
-    let value = serve_frame_of(locked, tables, &mut cpus[at], group, false);
+    let value = serve_alloc_of(locked, tables, &mut cpus[at], group, order, false);
     prove_sound(locked);
     value
 }

@@ -4,22 +4,22 @@ ghost use Rattle.std.specs.Prelude.{◌≡◌};
 ghost use Rattle.script_replay.specs.Commands.{act_on, frame_path, head_named, is_tried, locked_command_of};
 ghost use Rattle.script_replay.specs.Commands.{path_removed};
 
-use mem_system::LockedCommand;
+use mem_system::TextCommand;
 use script_lines::line::{Command, FrameAct};
 
-// The command of the machine that is served under the lock. None if the command needs no lock, or only settles its CPU.
+// The command that is served under the lock, as its texts give it. None if the command needs no lock, or only settles its CPU.
 // It is inlined, so that a caller that names the command builds nothing for it.
 #[inline(always)]
-pub(crate) fn locked_command_of<'a>(command: &Command<'a>) -> Option<LockedCommand<'a>>
+pub(crate) fn locked_command_of<'a>(command: &Command<'a>) -> Option<TextCommand<'a>>
     ensures { result ≡ locked_command_of command.now }
 {
     match *command {
-        Command::Mkdir { path } => Some(LockedCommand::Mkdir { path }),
-        Command::Rmdir { path } => Some(LockedCommand::Rmdir { path }),
-        Command::Write { path, file, value } => Some(LockedCommand::Write { path, file, value }),
-        Command::Read { path, file } => Some(LockedCommand::Read { path, file }),
-        Command::Alloc { path, order } => Some(LockedCommand::Alloc { path, order }),
-        Command::Release { frame } => Some(LockedCommand::Release { frame }),
+        Command::Mkdir { path } => Some(TextCommand::Mkdir { path }),
+        Command::Rmdir { path } => Some(TextCommand::Rmdir { path }),
+        Command::Write { path, file, value } => Some(TextCommand::Write { path, file, value }),
+        Command::Read { path, file } => Some(TextCommand::Read { path, file }),
+        Command::Alloc { path, order } => Some(TextCommand::Alloc { path, order }),
+        Command::Release { frame } => Some(TextCommand::Release { frame }),
         Command::OnFrame(act, frame) => Some(act_on(act, frame)),
         _ => None,
     }
@@ -27,14 +27,14 @@ pub(crate) fn locked_command_of<'a>(command: &Command<'a>) -> Option<LockedComma
 
 // The command that is this act on this frame.
 #[inline(always)]
-fn act_on<'a>(act: FrameAct, frame: u32) -> LockedCommand<'a>
+fn act_on<'a>(act: FrameAct, frame: u32) -> TextCommand<'a>
     ensures { result ≡ act_on act frame }
 {
     match act {
-        FrameAct::Touch => LockedCommand::Touch { frame },
-        FrameAct::Dirty => LockedCommand::Dirty { frame },
-        FrameAct::Clean => LockedCommand::Clean { frame },
-        FrameAct::Owner => LockedCommand::Owner { frame },
+        FrameAct::Touch => TextCommand::Touch { frame },
+        FrameAct::Dirty => TextCommand::Dirty { frame },
+        FrameAct::Clean => TextCommand::Clean { frame },
+        FrameAct::Owner => TextCommand::Owner { frame },
     }
 }
 

@@ -19,7 +19,7 @@ use crate::answer_value::AnswerValue;
 use crate::commands::locked_command_of;
 use cpu_part::{BootName, Tables};
 use group_tree::group::GroupId;
-use mem_system::{Cpu, Locked, serve_frame_outcome, serve_outcome, serve_settle};
+use mem_system::{Cpu, Locked, LockedCommand, serve_outcome, serve_settle, serve_text};
 use script_lines::line::Command;
 use step_rules::step::{Action, Answer};
 
@@ -61,7 +61,7 @@ fn end_command<N: BootName>(locked: &mut Locked<N>, cpu: u32)
     locked.take_step(cpu, Action::Unlock, Answer::Done);
 }
 
-// Serves a command while no other CPU can: carries out its `LockedCommand`, or only settles the CPU. In the run the
+// Serves a command while no other CPU can: carries out its `TextCommand`, or only settles the CPU. In the run the
 // CPU takes the lock and gives it back here.
 #[inline(always)]
 #[tactic(auto, using(crate::proofs::InRange::locked_command_in_zone))]
@@ -79,7 +79,7 @@ pub(crate) fn serve_locked<N: BootName>(
     ensures last { cpu.new.last ≡ stock_left N.table locked.new.machine cpu.new.part.number }
 {
     match locked_command_of(command) {
-        Some(cmd) => AnswerValue::Served(serve_outcome(locked, tables, cpu, &cmd)),
+        Some(cmd) => AnswerValue::Served(serve_text(locked, tables, cpu, &cmd)),
         None => {
             serve_settle(locked, tables, cpu);
             AnswerValue::Settled
@@ -110,25 +110,26 @@ pub(crate) fn serve_under_lock<N: BootName>(
     value
 }
 
-// Serves an Alloc of a single frame for this group under the lock. It doesn't look the group's path up again.
+// Serves an Alloc of this order for this group under the lock. It looks up no path.
 #[inline(always)]
-pub(crate) fn serve_frame_under_lock<N: BootName>(
+pub(crate) fn alloc_under_lock<N: BootName>(
     locked: &mut Locked<N>,
     tables: &Tables<N>,
     cpu: &mut Cpu<N>,
     group: GroupId,
+    order: u32,
     is_explained: bool,
 ) -> AnswerValue
     requires there { IsTrue (has_group locked.old.machine.ledger.groups group) }
     ensures served { (path : Bor (List ℕ)) → number_at locked.old.machine.ledger.groups path.now ≡ Some group
-        → ServesUnderLock N.table is_explained (Alloc path 0) (answer_of locked.new.machine.ledger result)
+        → ServesUnderLock N.table is_explained (Alloc path order) (answer_of locked.new.machine.ledger result)
         (locked_state locked.old cpu.old) (locked_state locked.new cpu.new) }
     ensures groups { NamesItsGroups locked.new.machine.ledger result }
     ensures last { cpu.new.last ≡ stock_left N.table locked.new.machine cpu.new.part.number }
 {
     let cpu_number = cpu.number();
     begin_command(locked, cpu_number, is_explained);
-    let outcome = serve_frame_outcome(locked, tables, cpu, group);
+    let outcome = serve_outcome(locked, tables, cpu, &LockedCommand::Alloc { group, order });
     end_command(locked, cpu_number);
     AnswerValue::Served(outcome)
 }

@@ -15,7 +15,7 @@ ghost use Rattle.script_replay.specs.ValueAnswers.{NamesItsGroups, answer_of};
 
 use crate::answer_value::AnswerValue;
 use crate::commands::frame_path;
-use crate::locked_commands::{serve_frame_under_lock, serve_under_lock};
+use crate::locked_commands::{alloc_under_lock, serve_under_lock};
 use crate::unlocked_commands::{alloc_in_order, try_in_order, watch_paid, watch_unlocked};
 use cpu_part::{BootName, Fast, Tables};
 use group_tree::fault::Fault;
@@ -113,6 +113,31 @@ pub(crate) fn serve_frame_of<N: BootName>(
             watch_paid(locked, cpu_number, group);
             AnswerValue::Unlocked(UnlockedAnswer::Fast(Fast::Got(frame)))
         }
-        _ => serve_frame_under_lock(locked, tables, cpu, group, is_explained),
+        _ => alloc_under_lock(locked, tables, cpu, group, 0, is_explained),
+    }
+}
+
+// Serves an Alloc of this order for an existing group: of a single frame without the lock, if possible. It looks up no
+// path.
+#[inline(always)]
+pub(crate) fn serve_alloc_of<N: BootName>(
+    locked: &mut Locked<N>,
+    tables: &Tables<N>,
+    cpu: &mut Cpu<N>,
+    group: GroupId,
+    order: u32,
+    is_explained: bool,
+) -> AnswerValue
+    requires there { IsTrue (has_group locked.old.machine.ledger.groups group) }
+    ensures answer { (path : Bor (List ℕ)) → number_at locked.old.machine.ledger.groups path.now ≡ Some group
+        → ServesAnswer (terms N.table is_explained) (Alloc path order)
+        (locked_state locked.old cpu.old) (locked_state locked.new cpu.new)
+        (answer_of locked.new.machine.ledger result) }
+    ensures groups { NamesItsGroups locked.new.machine.ledger result }
+{
+    if order == 0 {
+        serve_frame_of(locked, tables, cpu, group, is_explained)
+    } else {
+        alloc_under_lock(locked, tables, cpu, group, order, is_explained)
     }
 }

@@ -2,7 +2,7 @@
 use Rattle.std.proofs.Common.{◌≡◌, ℕ, ◌+◌, ◌<◌, ◌&&◌, ◌==◌, Bool, true, false, Option, Some, None, refl, sym, ◌∙◌, ap, cond, if◌then◌else◌, eq-eqb}
 use Rattle.std.proofs.lemmas.Bool.{ne_eqb, lt-ltb}
 use Rattle.group_tree.specs.Groups.{in_subtree}
-use Rattle.group_tree.specs.{is_there, is_in_subtree}
+use Rattle.group_tree.specs.{most_groups, is_there, is_in_subtree}
 use Rattle.step_rules.specs.declared.phase.Phase.{Phase}
 use Rattle.step_rules.specs.declared.phase.Phase.TheVariants.{InZone, Lent, Head, Tail}
 use Rattle.step_rules.specs.declared.step.FramePlace.TheVariants.{Charged}
@@ -44,14 +44,14 @@ charged_is (Tail g) h = refl
 
 -- of all groups one at most has the frame
 one_pair : (zone : Zone) (s : State) (g : ℕ) (o : Option ℕ) → IsHomed s → is_there s.groups o ≡ true →
-    one_if (is_in_subtree s.groups g o) ≡ sum_to 64 (λ h. one_if (in_subtree s.groups g h && is_of o h))
-one_pair zone s g None homed there = sym (sum_none 64 (λ h. one_if (in_subtree s.groups g h && false)) (λ h below. no_pair (in_subtree s.groups g h)))
+    one_if (is_in_subtree s.groups g o) ≡ sum_to most_groups (λ h. one_if (in_subtree s.groups g h && is_of o h))
+one_pair zone s g None homed there = sym (sum_none most_groups (λ h. one_if (in_subtree s.groups g h && false)) (λ h below. no_pair (in_subtree s.groups g h)))
   where
     no_pair : (b : Bool) → one_if (b && false) ≡ 0
     no_pair true = refl
     no_pair false = refl
 one_pair zone s g (Some k) homed there =
-    sym (sum_only 64 (λ h. one_if (in_subtree s.groups g h && h == k)) k (number_low s.groups k homed.tree there)
+    sym (sum_only most_groups (λ h. one_if (in_subtree s.groups g h && h == k)) k (number_low s.groups k homed.tree there)
     (λ h below ne. ap (λ b. one_if (in_subtree s.groups g h && b)) (ne_eqb h k ne) ∙ no_pair (in_subtree s.groups g h))
     ∙ ap (λ b. one_if (in_subtree s.groups g k && b)) (eq-eqb k k refl) ∙ ap one_if (and_so (in_subtree s.groups g k)))
   where
@@ -71,9 +71,9 @@ current_follows_the_run zone run legal g =
     let sizes : s.zone ≡ zone = zone_of_run zone run in
     record {
       kept = sum_same zone.frames (λ f. one_if (is_in_subtree s.groups g (keeper_of (s.phases f))))
-          (λ f. sum_to 64 (λ h. one_if (in_subtree s.groups g h && places_of zone run f (Charged h))))
+          (λ f. sum_to most_groups (λ h. one_if (in_subtree s.groups g h && places_of zone run f (Charged h))))
           (λ f below. one_pair zone s g (keeper_of (s.phases f)) homed (homed.frames f)
-          ∙ sum_same 64 (λ h. one_if (in_subtree s.groups g h && is_of (keeper_of (s.phases f)) h))
+          ∙ sum_same most_groups (λ h. one_if (in_subtree s.groups g h && is_of (keeper_of (s.phases f)) h))
           (λ h. one_if (in_subtree s.groups g h && places_of zone run f (Charged h)))
           (λ h low. ap (λ b. one_if (in_subtree s.groups g h && b))
           (sym (told f (Charged h) ∙ ap (λ b. b && is_same_frame_place (Charged h) (place_in (s.phases f))) (lt-ltb f zone.frames below)
@@ -85,7 +85,7 @@ current_follows_the_run zone run legal g =
           ∙ ap (λ n. n + sum_to (zone.cpus + 1) (λ p. if is_in_subtree s.groups g (last_fill run p).group then counted (stock_lost p) run else 0))
           (sum_same (zone.cpus + 1) (λ p. if is_in_subtree s.groups g (last_fill run p).group then (s.parts p).stock.pages else 0)
           (λ p. stock_in_subtree s.groups g (s.parts p)) (λ p below. same_stock p));
-      pending = in_and_out 64 (in_subtree s.groups g) (λ h. counted_with_state (pending_in h) zone run) s.pending
+      pending = in_and_out most_groups (in_subtree s.groups g) (λ h. counted_with_state (pending_in h) zone run) s.pending
           (λ h. counted_with_state (pending_out h) zone run) (λ h below. pending_is_counted zone run legal h);
       usage = ap (λ (z : Zone). frames_kept s.groups s.phases z.frames g + pages_prepaid s.groups s.parts z.cpus g + pages_pending s.groups s.pending g) sizes;
     }

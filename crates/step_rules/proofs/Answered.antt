@@ -7,7 +7,7 @@ use Rattle.zone_blocks.specs.declared.block.Block.{Block}
 use Rattle.zone_blocks.specs.Areas.{IsFreeBlock}
 use Rattle.zone_blocks.proofs.Unique.{decide_free_block}
 use Rattle.group_tree.specs.declared.group.Group.{Group}
-use Rattle.group_tree.specs.{has_group, parent_of, AreGroups, IsLeastFreeNumber, depth_at, has_room, PathHasRoom, IsLowestOver}
+use Rattle.group_tree.specs.{most_groups, has_group, parent_of, AreGroups, IsLeastFreeNumber, depth_at, has_room, PathHasRoom, IsLowestOver}
 use Rattle.group_tree.proofs.AncestorLemmas.{parent_of-none_root}
 use Rattle.group_tree.proofs.CallerLemmas.{in_subtree-above, in_subtree-refl}
 use Rattle.group_tree.proofs.Walks.{WalkedTo, walked_up, walked_all, walked_lowest, parent_depth}
@@ -98,11 +98,11 @@ number_or_all groups (suc n) =
       ]
     ]
 
-least_number : (groups : List Group) → ((g : ℕ) → has_group groups g ≡ true → g < 64) → (m : ℕ) × IsLeastFreeNumber groups m
+least_number : (groups : List Group) → ((g : ℕ) → has_group groups g ≡ true → g < most_groups) → (m : ℕ) × IsLeastFreeNumber groups m
 least_number groups few =
-    elim (number_or_all groups 65) [
+    elim (number_or_all groups (most_groups + 1)) [
       | inl found ↦ found
-      | inr all ↦ absurd (let past = few 64 (all 64 (omega arith)) in omega (arith, past))
+      | inr all ↦ absurd (let past = few most_groups (all most_groups (omega arith)) in omega (arith, past))
     ]
 
 -- ---- the answers
@@ -163,7 +163,7 @@ place_given s seat g k =
       | inr none ↦ (NoFreeBlock, none, tt)
     ]
 
-answered : (s : State) (seat : ℕ) (action : Action) → KeepsInvariant s → AreGroups s.groups → ((g : ℕ) → has_group s.groups g ≡ true → g < 64) →
+answered : (s : State) (seat : ℕ) (action : Action) → KeepsInvariant s → AreGroups s.groups → ((g : ℕ) → has_group s.groups g ≡ true → g < most_groups) →
     is_legal s seat action ≡ true → IsAnswered s seat action
 answered s seat (Get f) sound tree few legal = get_given s seat f
 answered s seat (Put f) sound tree few legal =

@@ -7,7 +7,7 @@ use Rattle.std.proofs.lemmas.Nat.{pow_pos}
 use Rattle.zone_blocks.specs.declared.block.Block.{Block}
 use Rattle.group_tree.specs.declared.group.Group.{Group}
 use Rattle.group_tree.specs.Groups.{has_group, in_subtree, initial_groups}
-use Rattle.group_tree.specs.{is_in_subtree}
+use Rattle.group_tree.specs.{most_groups, is_in_subtree}
 use Rattle.step_rules.specs.declared.phase.ChargedUnit.{ChargedUnit}
 use Rattle.step_rules.specs.declared.phase.Way.TheVariants.{PassingOut, OnList}
 use Rattle.step_rules.specs.declared.phase.Stage.TheVariants.{FreshAt, Bare, Live, AwaitsReturn}
@@ -31,7 +31,7 @@ use Rattle.step_rules.specs.State.{State, sum_to}
 use Rattle.step_rules.proofs.LegalTests.{consume_tests, credit_tests, drain_stock_tests, fill_tests, grant_tests, pass_out_tests}
 use Rattle.step_rules.proofs.LegalTests.{place_block_tests, return_tests, take_in_tests, ungrant_tests}
 use Rattle.step_rules.proofs.Basics.{at_itself}
-use Rattle.step_rules.proofs.Sums.{sum_same, sum_none, sum_both}
+use Rattle.step_rules.proofs.Sums.{none_if, sum_same, sum_none, sum_both}
 use Rattle.step_rules.proofs.PhaseLemmas.{fresh_is, free_is, out_is, listed_is, returning_is, Returns, AsEnded, AsKilled, equal_test, none_some}
 use Rattle.step_rules.proofs.SoundSteps.{below_frames}
 use Rattle.step_rules.proofs.Passing.{front_listed, in_zone}
@@ -145,10 +145,6 @@ module _ (groups : List Group) (m : ℕ) where
 abbrev total : List Group → ℕ → State → ℕ
 total groups m s = frames_kept groups s.phases s.zone.frames m + pages_prepaid groups s.parts s.zone.cpus m + pages_pending groups s.pending m
 
-no_pages : (b : Bool) (n : ℕ) → n ≡ 0 → cond b n 0 ≡ 0
-no_pages true n e = e
-no_pages false n e = refl
-
 placed_keeper : (g : ℕ) (b : Block) (x : ℕ) → keeper_of (placed_phase g b x) ≡ Some g
 placed_keeper g b x = by_head (x == b.at)
   where
@@ -220,7 +216,7 @@ drain_moves groups m s p n h all (Some k) e =
           let zero_pages : n ≡ 0 = omega arith in
           let b : pages_pending groups (with_at s.pending k (s.pending k + n)) m ≡ pages_pending groups s.pending m =
           ap (λ x. pages_pending groups x m) (ap (with_at s.pending k) (omega arith) ∙ at_itself s.pending k) in
-          let g = no_pages (in_subtree groups m k) n zero_pages in
+          let g = none_if (in_subtree groups m k) n zero_pages in
           omega arith
     ]
 
@@ -310,7 +306,7 @@ module _ (groups : List Group) (m : ℕ) where
       let empty = equal_test (s.parts p).stock.pages 0 (and_parts ((s.parts p).stock.pages == 0) _ may).0 in
       let cpu : is_cpu s.zone p ≡ true = h.holder p (or_right _ _ visit) in
       let b = prepaid_moves groups s.parts s.zone.cpus m p (filled (s.parts p) g n) (cpu_low s.zone p cpu) in
-      let none : stock_in_subtree groups m (s.parts p) ≡ 0 = no_pages (is_in_subtree groups m (s.parts p).stock.group) (s.parts p).stock.pages empty in
+      let none : stock_in_subtree groups m (s.parts p) ≡ 0 = none_if (is_in_subtree groups m (s.parts p).stock.group) (s.parts p).stock.pages empty in
       let c = pending_moves groups s.pending m g (s.pending g - n) (number_low s.groups g h.tree there) in
       let d = pends_less groups m g (s.pending g) n enough in
       omega arith
@@ -386,7 +382,7 @@ module _ (groups : List Group) (m : ℕ) where
       let a : frames_kept groups (at_boot zone).phases zone.frames m ≡ 0 = sum_none zone.frames (λ f. 0) (λ f below. refl) in
       let b : pages_prepaid groups (at_boot zone).parts zone.cpus m ≡ 0 = sum_none (zone.cpus + 1) (λ p. 0) (λ p below. refl) in
       let c : pages_pending groups (at_boot zone).pending m ≡ 0 =
-      sum_none 64 (λ h. pends_one groups m h 0) (λ h below. no_pages (in_subtree groups m h) 0 refl) in
+      sum_none most_groups (λ h. pends_one groups m h 0) (λ h below. none_if (in_subtree groups m h) 0 refl) in
       omega arith
 
 -- the usage of a group is the pages charged to it and to those below it

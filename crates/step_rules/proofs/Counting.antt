@@ -16,6 +16,7 @@ use Rattle.step_rules.specs.State.{State}
 use Rattle.step_rules.proofs.LegalTests.{fill_tests, freeze_tests, put_tests}
 use Rattle.step_rules.proofs.Basics.{at_same, at_other}
 use Rattle.step_rules.proofs.PhaseLemmas.{equal_test}
+use Rattle.step_rules.proofs.Sums.{none_if}
 use Rattle.step_rules.proofs.Referring.{Referring, changed, changed_others, changed_here}
 use Rattle.step_rules.proofs.Runs.{after_illegal, allowed, kept_along, sound_boot}
 
@@ -182,20 +183,16 @@ part_changes T parts q p part i o e =
           rw (ne_eqb q p ne) (omega arith)
     ]
 
-none_if : (b : Bool) → ◌≡◌ {A = ℕ} (cond b 0 0) 0
-none_if true = refl
-none_if false = refl
-
 pub gained : (T : Part → ℕ) (parts : ℕ → Part) (q p : ℕ) (part : Part) (n : ℕ) → T (parts q) + n ≡ T part →
     T (parts p) + cond (q == p) n 0 ≡ T (with_at parts q part p) + 0
-gained T parts q p part n e = let a = part_changes T parts q p part n 0 (omega arith) in let b = none_if (q == p) in omega arith
+gained T parts q p part n e = let a = part_changes T parts q p part n 0 (omega arith) in let b = none_if (q == p) 0 refl in omega arith
 
 pub lost : (T : Part → ℕ) (parts : ℕ → Part) (q p : ℕ) (part : Part) (n : ℕ) → T (parts q) ≡ T part + n →
     T (parts p) + 0 ≡ T (with_at parts q part p) + cond (q == p) n 0
-lost T parts q p part n e = let a = part_changes T parts q p part 0 n (omega arith) in let b = none_if (q == p) in omega arith
+lost T parts q p part n e = let a = part_changes T parts q p part 0 n (omega arith) in let b = none_if (q == p) 0 refl in omega arith
 
 pub stayed : (T : Part → ℕ) (parts : ℕ → Part) (q p : ℕ) (part : Part) → T (parts q) ≡ T part → T (parts p) + 0 ≡ T (with_at parts q part p) + 0
-stayed T parts q p part e = let a = part_changes T parts q p part 0 0 (omega arith) in let b = none_if (q == p) in omega arith
+stayed T parts q p part e = let a = part_changes T parts q p part 0 0 (omega arith) in let b = none_if (q == p) 0 refl in omega arith
 
 pub stayed_last : (T : Part → ℕ) (parts : ℕ → Part) (q p f : ℕ) → T (parts q) ≡ T (with_back (parts q) f) →
     T (parts p) + 0 ≡ T (cond (q == 0) parts (with_at parts q (with_back (parts q) f)) p) + 0

@@ -3,7 +3,7 @@ use Rattle.std.proofs.Common.{◌≡◌, ℕ, ◌+◌, ◌-◌, ◌^◌, ◌≤�
 use Rattle.std.proofs.Common.{inl, inr, cond, if◌then◌else◌, eq-eqb, zero, suc}
 use Rattle.std.specs.Prelude.{nat_le}
 use Rattle.std.proofs.lemmas.Bool.{cases_eq, ne_eqb, leb-true, le-leb}
-use Rattle.group_tree.specs.{in_subtree, limit_of, fits_limit}
+use Rattle.group_tree.specs.{most_groups, in_subtree, limit_of, fits_limit}
 use Rattle.step_rules.specs.declared.step.Action.{Action}
 use Rattle.step_rules.specs.declared.step.Action.TheVariants.{Lock, Fill, DrainStock, Grant, Ungrant, PlaceBlock}
 use Rattle.step_rules.specs.declared.step.Answer.{Answer}
@@ -14,6 +14,7 @@ use Rattle.step_rules.specs.{pending_in, pending_out, PendingIsCounted, KeepsInv
 use Rattle.step_rules.proofs.LegalTests.{fill_tests, place_block_tests, ungrant_tests}
 use Rattle.step_rules.proofs.Basics.{at_same, at_other}
 use Rattle.step_rules.proofs.Runs.{allowed}
+use Rattle.step_rules.proofs.Sums.{none_if}
 use Rattle.step_rules.proofs.Returning.{counted_so}
 
 -- where one value rises by n, a sum of some of the values rises by n at most
@@ -49,13 +50,9 @@ pub no_grant_passes_a_limit : NoGrantPassesALimit
 no_grant_passes_a_limit zone run legal seat g n made m on_path =
     let s = state_of zone run in
     let rises : pages_pending s.groups (with_at s.pending g (s.pending g + n)) m ≤ pages_pending s.groups s.pending m + n =
-    (sum_rises 64 (in_subtree s.groups m) s.pending g n).0 in
+    (sum_rises most_groups (in_subtree s.groups m) s.pending g n).0 in
     let room : fits_limit (limit_of s.groups m) (usage_of s m + n) ≡ true = made.answered m on_path in
     fits_below (limit_of s.groups m) (usage_of (after s seat (Grant g n) Granted) m) (usage_of s m + n) (omega arith) room
-
-none_if : (b : Bool) → ◌≡◌ {A = ℕ} (cond b 0 0) 0
-none_if true = refl
-none_if false = refl
 
 -- the pages pending for one group change
 pending_changes : (pending : ℕ → ℕ) (h g n i o : ℕ) → pending h + i ≡ n + o → pending g + cond (h == g) i 0 ≡ with_at pending h n g + cond (h == g) o 0
@@ -71,10 +68,10 @@ pending_changes pending h g n i o e =
     ]
 
 more : (pending : ℕ → ℕ) (h g n : ℕ) → pending g + cond (h == g) n 0 ≡ with_at pending h (pending h + n) g + 0
-more pending h g n = let a = pending_changes pending h g (pending h + n) n 0 (omega arith) in let b = none_if (h == g) in omega arith
+more pending h g n = let a = pending_changes pending h g (pending h + n) n 0 (omega arith) in let b = none_if (h == g) 0 refl in omega arith
 
 less : (pending : ℕ → ℕ) (h g n : ℕ) → n ≤ pending h → pending g + 0 ≡ with_at pending h (pending h - n) g + cond (h == g) n 0
-less pending h g n some = let a = pending_changes pending h g (pending h - n) 0 n (omega arith) in let b = none_if (h == g) in omega arith
+less pending h g n some = let a = pending_changes pending h g (pending h - n) 0 n (omega arith) in let b = none_if (h == g) 0 refl in omega arith
 
 drained_more : (pending : ℕ → ℕ) (o : Option ℕ) (g n : ℕ) → pending g + cond (is_of_group o g) n 0 ≡ with_more pending o n g + 0
 drained_more pending None g n = refl

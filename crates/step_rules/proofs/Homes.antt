@@ -3,13 +3,13 @@ use Rattle.std.proofs.Common.{◌≡◌, ℕ, ◌+◌, ◌-◌, ◌^◌, ◌<◌
 use Rattle.std.proofs.Common.{arith, inl, inr, cond, eq-eqb, ◌||◌}
 use Rattle.std.specs.Prelude.{not, is_none}
 use Rattle.std.proofs.lemmas.Bool.{cases_eq, cases_Bool, cases_lt, ne_eqb, false≢true, true≢false, or_left, or_right}
-use Rattle.std.proofs.lemmas.List.Elements.{All-contains}
 use Rattle.group_tree.specs.declared.group.Group.{Group}
 use Rattle.group_tree.specs.declared.fault.Fault.{Fault}
 use Rattle.group_tree.specs.Groups.{has_group, has_child, in_subtree, make_fault, with_group, with_limit, with_oom_group, without_group, IsLeastFreeNumber, AreGroups}
-use Rattle.group_tree.proofs.GroupLemmas.{AreGroups-with, AreGroups-limited, AreGroups-flagged, AreGroups-without, CanMake, can_make, length-full, has_group-is, group_at-contains}
+use Rattle.group_tree.proofs.GroupLemmas.{AreGroups-with, AreGroups-limited, AreGroups-flagged, AreGroups-without, CanMake, can_make, length-full}
 use Rattle.group_tree.proofs.CallerLemmas.{has_group-with_kept, has_group-limited, has_group-flagged, has_group-without, in_subtree-refl}
-use Rattle.group_tree.specs.{is_there, is_in_subtree}
+use Rattle.group_tree.proofs.CallerLemmas.{number_below}
+use Rattle.group_tree.specs.{most_groups, is_there, is_in_subtree}
 use Rattle.step_rules.specs.declared.phase.Hold.{Hold}
 use Rattle.step_rules.specs.declared.phase.Hold.TheVariants.{Unheld, HeldBy, Visiting}
 use Rattle.step_rules.specs.declared.phase.Stage.{Stage}
@@ -113,10 +113,10 @@ module _ {zone : Zone} {hold : Hold} {groups : List Group} {phases : ℕ → Pha
       let b = sum_part (zone.cpus + 1) (λ p. stock_in_subtree groups g (parts p)) q below in
       omega arith
 
-  kept_pending : (g : ℕ) → g < 64 → has_group groups g ≡ true → pending g ≤ pages_pending groups pending g
+  kept_pending : (g : ℕ) → g < most_groups → has_group groups g ≡ true → pending g ≤ pages_pending groups pending g
   kept_pending g below there =
       let a : cond (in_subtree groups g g) (pending g) 0 ≡ pending g = ap (λ b. cond b (pending g) 0) (in_subtree-refl groups g there) in
-      let b = sum_part 64 (λ k. cond (in_subtree groups g k) (pending k) 0) g below in
+      let b = sum_part most_groups (λ k. cond (in_subtree groups g k) (pending k) 0) g below in
       omega arith
 
 pub same_keeper : (st : Stage) (x : Phase) → keeper_of (at_stage st x) ≡ keeper_of x
@@ -144,11 +144,8 @@ homes_same : {zone : Zone} {hold : Hold} {groups : List Group} {phases : ℕ →
 homes_same {groups = groups} h f y e = homes_phase h f y (ap (is_there groups) e ∙ h.frames f)
 
 -- the numbers of groups that are there are low
-pub number_low : (groups : List Group) (g : ℕ) → AreGroups groups → has_group groups g ≡ true → g < 64
-number_low groups g facts there =
-    let found = has_group-is groups g there in
-    let at = group_at-contains groups g found.0 found.1 in
-    subst (λ n. n < 64) at.1 (All-contains (λ x. x.number < 64) groups found.0 facts.numbers at.0)
+pub number_low : (groups : List Group) (g : ℕ) → AreGroups groups → has_group groups g ≡ true → g < most_groups
+number_low = number_below
 
 pub cpu_low : (zone : Zone) (q : ℕ) → is_cpu zone q ≡ true → q < zone.cpus + 1
 cpu_low zone q cpu = let a = (cpu_range zone q cpu).1 in omega arith
@@ -172,7 +169,7 @@ gone_keeps {zone} {hold} {phases} {parts} {pending} groups g h there none leaf b
   quiet = h.quiet;
 }
   where
-    low : g < 64
+    low : g < most_groups
     low = number_low groups g h.tree there
 
     frame : (f : ℕ) (o : Option ℕ) → keeper_of (phases f) ≡ o → is_there (without_group groups g) (keeper_of (phases f)) ≡ true
@@ -224,7 +221,7 @@ more_keeps {phases = phases} {parts = parts} groups later h tree stays = record 
     ]
 
 -- a new group's number is low
-new_low : (groups : List Group) (path : List ℕ) (n : ℕ) → CanMake groups path → IsLeastFreeNumber groups n → n < 64
+new_low : (groups : List Group) (path : List ℕ) (n : ℕ) → CanMake groups path → IsLeastFreeNumber groups n → n < most_groups
 new_low groups path n can free = let a = length-full groups n free.least in let b = can.room in omega arith
 
 no_fault : (o : Option Fault) → is_none o ≡ true → o ≡ None
@@ -245,12 +242,12 @@ held_is p q e = equal_test p q (only (p == q) e)
 visit_is : (p q : ℕ) → holds_lock q (Visiting p) ≡ true → p ≡ q
 visit_is p q e = equal_test p q e
 
-unheld_rests : (hold : Hold) (q : ℕ) → is_unheld hold ≡ true → visits q hold ≡ false
+pub unheld_rests : (hold : Hold) (q : ℕ) → is_unheld hold ≡ true → visits q hold ≡ false
 unheld_rests Unheld q e = refl
 unheld_rests (HeldBy p) q e = absurd (false≢true e)
 unheld_rests (Visiting p) q e = absurd (false≢true e)
 
-held_rests : (p : ℕ) (hold : Hold) (q : ℕ) → is_held_by p hold ≡ true → visits q hold ≡ false
+pub held_rests : (p : ℕ) (hold : Hold) (q : ℕ) → is_held_by p hold ≡ true → visits q hold ≡ false
 held_rests p (HeldBy r) q e = refl
 held_rests p Unheld q e = absurd (false≢true e)
 held_rests p (Visiting r) q e = absurd (false≢true e)

@@ -5,7 +5,7 @@ use Rattle.std.proofs.lemmas.Bool.{cases_Bool, cases_lt, false≢true}
 use Rattle.group_tree.specs.Groups.{has_group}
 use Rattle.group_tree.proofs.GroupLemmas.{AreGroups-initial}
 use Rattle.group_tree.proofs.AncestorLemmas.{parent_of-there}
-use Rattle.group_tree.specs.{is_there}
+use Rattle.group_tree.specs.{most_groups, is_there}
 use Rattle.step_rules.specs.declared.phase.Stage.TheVariants.{FreshAt}
 use Rattle.step_rules.specs.declared.phase.Phase.TheVariants.{Head}
 use Rattle.step_rules.specs.declared.step.Step.{Step}
@@ -83,7 +83,7 @@ kept_stock_of s p sound h fits = record {
 
 pub settled_all : (s : State) → IsHomed s → no_page_pends s ≡ true → (g : ℕ) → s.pending g ≡ 0
 settled_all s h all g = elim (cases_Bool (has_group s.groups g)) [
-  | inl there ↦ equal_test (s.pending g) 0 (all_at 64 (λ k. s.pending k == 0) all g (number_low s.groups g h.tree there))
+  | inl there ↦ equal_test (s.pending g) 0 (all_at most_groups (λ k. s.pending k == 0) all g (number_low s.groups g h.tree there))
   | inr absent ↦ h.pages g absent
 ]
 

@@ -2,6 +2,7 @@
 -- `beginnings_are_legal`.
 use Rattle.std.proofs.Common.{◌≡◌, ℕ, ◌^◌, ◌==◌, Bool, true, false, Some, None, refl, sym, ◌∙◌, ap, subst, inl, inr, cond}
 use Rattle.std.proofs.lemmas.Bool.{or_right, or_cases}
+use Rattle.std.proofs.lemmas.Option.{same_Some}
 use Rattle.zone_blocks.specs.declared.block.Block.{Block}
 use Rattle.step_rules.specs.declared.phase.Stage.{Stage}
 use Rattle.step_rules.specs.declared.phase.Stage.TheVariants.{Bare, Live, AwaitsReturn}
@@ -29,9 +30,6 @@ use Rattle.step_rules.proofs.Freeing.{zone_of_run}
 -- no CPU has it
 never : (x : Phase) → lent_to x ≡ None → (p : ℕ) → lent_to x ≡ Some p → ⊥
 never x none p e = none_some p (sym none ∙ e)
-
-same_cpu : (a b : ℕ) → Some a ≡ Some b → a ≡ b
-same_cpu a b e = cc
 
 staged : (stage : Stage) (x : Phase) → lent_to (at_stage stage x) ≡ lent_to x
 staged stage (Head u old) = refl
@@ -82,18 +80,18 @@ lent_made s seat (PassOut g p) Done homed lent made =
     let legal = made.legal in
     let visit : visits p s.hold ≡ true = (pass_out_tests s seat g p legal).2 in
     let cpu : is_cpu s.zone p ≡ true = homed.holder p (or_right (is_held_by p s.hold) (visits p s.hold) visit) in
-    lent_at s.zone s.phases g _ lent (λ q e. subst (λ (k : ℕ). is_cpu s.zone k ≡ true) (same_cpu p q e) cpu)
+    lent_at s.zone s.phases g _ lent (λ q e. subst (λ (k : ℕ). is_cpu s.zone k ≡ true) (same_Some p q e) cpu)
 lent_made s seat (TakeIn g) Done homed lent made =
     let legal = made.legal in
     let cpu : is_cpu s.zone seat ≡ true = (take_in_tests s seat g legal).0 in
-    lent_at s.zone s.phases g _ lent (λ q e. subst (λ (k : ℕ). is_cpu s.zone k ≡ true) (same_cpu seat q e) cpu)
+    lent_at s.zone s.phases g _ lent (λ q e. subst (λ (k : ℕ). is_cpu s.zone k ≡ true) (same_Some seat q e) cpu)
 lent_made s seat (PassBack g) Done homed lent made = lent_same s.zone s.phases g _ lent (sent (s.phases g))
 lent_made s seat (Collect g p) Done homed lent made = lent_none s.zone s.phases g _ lent (got (s.phases g))
 lent_made s seat (Consume g) Took homed lent made = lent_none s.zone s.phases _ _ lent refl
 lent_made s seat (Credit g) Stocked homed lent made =
     let legal = made.legal in
     let cpu : is_cpu s.zone seat ≡ true = (credit_tests s seat g legal).0 in
-    lent_at s.zone s.phases g _ lent (λ q e. subst (λ (k : ℕ). is_cpu s.zone k ≡ true) (same_cpu seat q e) cpu)
+    lent_at s.zone s.phases g _ lent (λ q e. subst (λ (k : ℕ). is_cpu s.zone k ≡ true) (same_Some seat q e) cpu)
 lent_made s seat (PlaceBlock g k) (Placed b) homed lent made = λ f p e. elim (within_cases b.at (2 ^ b.order) f) [
   | inl within ↦ absurd (never (with_block s.phases g b f) (ap lent_to (in_block s.phases g b f within.0) ∙ placed g b f) p e)
   | inr without ↦ lent f p (sym (ap lent_to (off_block s.phases g b f without.0)) ∙ e)

@@ -85,7 +85,7 @@ frozen_dead InZone = refl
 frozen_dead (Lent p way) = refl
 frozen_dead (Tail g) = refl
 
-hand_dead : (x : Phase) → InHand x → is_live_phase x ≡ false
+pub hand_dead : (x : Phase) → InHand x → is_live_phase x ≡ false
 hand_dead x (WasCollected u e) = ap is_live_phase e
 hand_dead x (WasBare u e) = ap is_live_phase e
 hand_dead x (WasEnded u e) = ap is_live_phase e

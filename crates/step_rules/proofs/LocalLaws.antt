@@ -38,7 +38,7 @@ visit_own : (p q : ℕ) (hold : Hold) → holds_lock p hold ≡ true → visits 
 visit_own p q hold holds visit = or_left _ false (eq-eqb q p (only_visit p q hold holds visit))
 
 -- a step of p or the zone leaves the lock with p
-own_holds : (s : State) (p seat : ℕ) (action : Action) (answer : Answer) → is_of_lock action ≡ false → holds_lock p s.hold ≡ true →
+pub own_holds : (s : State) (p seat : ℕ) (action : Action) (answer : Answer) → is_of_lock action ≡ false → holds_lock p s.hold ≡ true →
     is_legal s seat action ≡ true → holds_lock p (after s seat action answer).hold ≡ true
 own_holds s p seat action Illegal inside holds legal = ap (λ (t : State). holds_lock p t.hold) (after_illegal s seat action) ∙ holds
 own_holds s p seat Lock answer inside holds legal = absurd (true≢false inside)

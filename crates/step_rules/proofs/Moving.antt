@@ -1,15 +1,15 @@
 -- No step but a grant raises any usage. Serves `only_grants_raise_usage` and the laws of peaks.
-use Rattle.std.proofs.Common.{◌≡◌, ℕ, ◌+◌, ◌-◌, ◌^◌, ◌<◌, ◌≤◌, ◌==◌, Bool, true, false, Option, Some, None, List, [], ◌∷◌, length, refl}
+use Rattle.std.proofs.Common.{◌≡◌, ℕ, ◌+◌, ◌-◌, ◌^◌, ◌<◌, ◌≤◌, ◌==◌, Bool, true, false, Option, Some, None, List, [], length, refl}
 use Rattle.std.proofs.Common.{sym, ◌∙◌, ap, subst, arith, inl, inr, cond, if◌then◌else◌, zero, suc}
-use Rattle.std.specs.Prelude.{nat_le, is_none, not, filter}
-use Rattle.std.specs.List.{list_any}
+use Rattle.std.specs.Prelude.{nat_le, is_none}
 use Rattle.std.proofs.lemmas.Bool.{cases_eq, cases_Bool, cases_lt, false≢true, true≢false, leb-true, or_right}
 use Rattle.group_tree.specs.declared.group.Group.{Group}
 use Rattle.group_tree.specs.Groups.{has_group, in_subtree, with_group, with_limit, with_oom_group, without_group, make_fault, AreGroups}
-use Rattle.group_tree.proofs.GroupLemmas.{CanMake, has_group-any}
-use Rattle.group_tree.proofs.CallerLemmas.{in_subtree-with, in_subtree-limited, in_subtree-flagged, in_subtree-without, in_subtree-with_new, in_subtree-above, in_subtree-below}
+use Rattle.group_tree.proofs.GroupLemmas.{CanMake}
+use Rattle.group_tree.proofs.CallerLemmas.{has_group-without_own, in_subtree-with, in_subtree-limited, in_subtree-flagged, in_subtree-without, in_subtree-with_new, in_subtree-above}
+use Rattle.group_tree.proofs.CallerLemmas.{in_subtree-below}
 use Rattle.zone_blocks.specs.declared.block.Block.{Block}
-use Rattle.group_tree.specs.{is_there, is_in_subtree}
+use Rattle.group_tree.specs.{most_groups, is_there, is_in_subtree}
 use Rattle.step_rules.specs.declared.phase.Hold.{Hold}
 use Rattle.step_rules.specs.declared.phase.Stage.TheVariants.{FreshAt, Bare, Live, AwaitsReturn}
 use Rattle.step_rules.specs.declared.phase.Phase.{Phase}
@@ -112,12 +112,12 @@ prepaid_stays groups parts cpus m p part e =
     (ap (λ st. if is_in_subtree groups m st.group then st.pages else 0) e) (λ k ne. refl) i)
 
 -- the pages pending for one group change
-pub pending_moves : (groups : List Group) (pending : ℕ → ℕ) (m g n : ℕ) → g < 64 →
+pub pending_moves : (groups : List Group) (pending : ℕ → ℕ) (m g n : ℕ) → g < most_groups →
     pages_pending groups (with_at pending g n) m + pends_one groups m g (pending g) ≡ pages_pending groups pending m + pends_one groups m g n
 pending_moves groups pending m g n below =
-    let a = sum_change 64 (λ h. pends_one groups m h (pending h)) g (pends_one groups m g n) below in
-    let b : pages_pending groups (with_at pending g n) m ≡ sum_to 64 (with_at (λ h. pends_one groups m h (pending h)) g (pends_one groups m g n)) =
-    sum_same 64 (λ h. pends_one groups m h (with_at pending g n h)) (with_at (λ h. pends_one groups m h (pending h)) g (pends_one groups m g n))
+    let a = sum_change most_groups (λ h. pends_one groups m h (pending h)) g (pends_one groups m g n) below in
+    let b : pages_pending groups (with_at pending g n) m ≡ sum_to most_groups (with_at (λ h. pends_one groups m h (pending h)) g (pends_one groups m g n)) =
+    sum_same most_groups (λ h. pends_one groups m h (with_at pending g n h)) (with_at (λ h. pends_one groups m h (pending h)) g (pends_one groups m g n))
     (λ i here. at_each pending g n (λ k x. pends_one groups m k x ≡ with_at (λ h. pends_one groups m h (pending h)) g (pends_one groups m g n) k)
     (sym (at_same (λ h. pends_one groups m h (pending h)) g (pends_one groups m g n)))
     (λ k ne. sym (at_other (λ h. pends_one groups m h (pending h)) g (pends_one groups m g n) k ne)) i) in
@@ -126,11 +126,11 @@ pending_moves groups pending m g n below =
 pub pending_rises : (groups : List Group) (pending : ℕ → ℕ) (m h n : ℕ) →
     pages_pending groups (with_at pending h (pending h + n)) m ≤ pages_pending groups pending m + pends_one groups m h n
 pending_rises groups pending m h n =
-    elim (cases_lt h 64) [
+    elim (cases_lt h most_groups) [
       | inl low ↦ let a = pending_moves groups pending m h (pending h + n) low in let b = pends_split groups m h (pending h) n in omega arith
       | inr past ↦
           let a : pages_pending groups (with_at pending h (pending h + n)) m ≡ pages_pending groups pending m =
-          sum_same 64 (λ k. pends_one groups m k (with_at pending h (pending h + n) k)) (λ k. pends_one groups m k (pending k))
+          sum_same most_groups (λ k. pends_one groups m k (with_at pending h (pending h + n) k)) (λ k. pends_one groups m k (pending k))
           (λ k below. ap (pends_one groups m k) (at_other pending h (pending h + n) k (λ e. absurd (omega arith)))) in
           omega arith
     ]
@@ -212,7 +212,7 @@ usage_falls zone hold groups later phases parts pending m homes stays =
     (λ i below. frame (keeper_of (phases i)) (homes.frames i)) in
     let b = sum_less (zone.cpus + 1) (λ q. stock_in_subtree later m (parts q)) (λ q. stock_in_subtree groups m (parts q))
     (λ q below. stock (parts q).stock.group (parts q).stock.pages (homes.stocks q)) in
-    let c = sum_less 64 (λ h. pends_one later m h (pending h)) (λ h. pends_one groups m h (pending h))
+    let c = sum_less most_groups (λ h. pends_one later m h (pending h)) (λ h. pends_one groups m h (pending h))
     (λ h below. pages_less (in_subtree later m h) (in_subtree groups m h) (pending h) (pends h)) in
     omega arith
   where
@@ -242,21 +242,12 @@ usage_absent s m absent =
     let a = sum_none s.zone.frames (λ f. one_if (is_in_subtree s.groups m (keeper_of (s.phases f)))) (λ f here. ap one_if (below (keeper_of (s.phases f)))) in
     let b = sum_none (s.zone.cpus + 1) (λ p. stock_in_subtree s.groups m (s.parts p))
     (λ p here. ap (λ t. cond t (s.parts p).stock.pages 0) (below (s.parts p).stock.group)) in
-    let c = sum_none 64 (λ h. pends_one s.groups m h (s.pending h)) (λ h here. ap (λ t. cond t (s.pending h) 0) (none h)) in
+    let c = sum_none most_groups (λ h. pends_one s.groups m h (s.pending h)) (λ h here. ap (λ t. cond t (s.pending h) 0) (none h)) in
     omega arith
 
--- a group that is taken out is gone
-any_without : (n : ℕ) (xs : List Group) → list_any (λ g. g.number == n) (filter (λ g. not (g.number == n)) xs) ≡ false
-any_without n [] = refl
-any_without n (x ∷ xs) =
-    elim (cases_Bool (x.number == n)) [
-      | inl e ↦ rw e (any_without n xs)
-      | inr e ↦ rw (e, e) (any_without n xs)
-    ]
-
+-- a removed group is gone
 pub gone_itself : (groups : List Group) (n : ℕ) → has_group (without_group groups n) n ≡ false
-unfolding without_group
-gone_itself groups n = has_group-any (without_group groups n) n ∙ any_without n groups
+gone_itself = has_group-without_own
 
 -- a group that is made has nothing below it, and the others have what they had
 made_stays : (groups : List Group) (path : List ℕ) (n m : ℕ) → AreGroups groups → CanMake groups path → has_group groups n ≡ false →

@@ -4,6 +4,7 @@ use Rattle.std.proofs.Common.{inr, cond, eq-eqb, length-append}
 use Rattle.std.specs.Prelude.{◌⊎◌, max}
 use Rattle.std.proofs.lemmas.Bool.{cases_eq, cases_lt, cases_Bool, ne_eqb, true≢false}
 use Rattle.std.proofs.lemmas.List.{take-append-le, take_all}
+use Rattle.group_tree.specs.Bounds.{most_groups}
 use Rattle.group_tree.specs.Groups.{has_group, in_subtree, with_group, without_group}
 use Rattle.group_tree.proofs.CallerLemmas.{has_group-with, has_group-limited, has_group-flagged, has_group-without, in_subtree-above, root_there}
 use Rattle.group_tree.proofs.GroupLemmas.{AreGroups-initial}
@@ -15,7 +16,7 @@ use Rattle.step_rules.specs.declared.step.Answer.TheVariants.{Illegal, Done, Gra
 use Rattle.step_rules.specs.{Zone, at_boot, no_part, stock_in_subtree, usage_of, IsAnswer, Allows, Run, after, state_of, pushed, UsageMoves}
 use Rattle.step_rules.specs.{OnlyGrantsRaiseUsage, IsThereSince, IsPeak, peak_follows, PeaksAreKept}
 use Rattle.step_rules.specs.State.{State}
-use Rattle.step_rules.proofs.Sums.{sum_none}
+use Rattle.step_rules.proofs.Sums.{none_if, sum_none}
 use Rattle.step_rules.proofs.Runs.{allowed, state_more}
 use Rattle.step_rules.proofs.Keeping.{homed_run}
 use Rattle.step_rules.proofs.Moving.{same_least, usage_step, usage_absent, moves_illegal, gone_itself}
@@ -197,10 +198,6 @@ peak_boot zone = record {
       ∙ usage_boot in omega arith);
 }
   where
-    none_if : (c : Bool) → ◌≡◌ {A = ℕ} (cond c 0 0) 0
-    none_if true = refl
-    none_if false = refl
-
     nothing : (k : ℕ) → ◌≡◌ {A = Run} (take k []) []
     nothing k = take_all k [] (omega arith)
 
@@ -211,7 +208,7 @@ peak_boot zone = record {
     usage_boot =
         let a = sum_none zone.frames (λ f. 0) (λ f below. refl) in
         let b = sum_none (zone.cpus + 1) (λ p. stock_in_subtree (at_boot zone).groups 0 no_part) (λ p below. refl) in
-        let c = sum_none 64 (λ h. cond (in_subtree (at_boot zone).groups 0 h) 0 0) (λ h below. none_if (in_subtree (at_boot zone).groups 0 h)) in
+        let c = sum_none most_groups (λ h. cond (in_subtree (at_boot zone).groups 0 h) 0 0) (λ h below. none_if (in_subtree (at_boot zone).groups 0 h) 0 refl) in
         omega arith
 
 pub peaks_are_kept : PeaksAreKept

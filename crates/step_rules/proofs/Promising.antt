@@ -1,10 +1,11 @@
 -- Every legal run keeps the promise. Serves `the_promise_is_kept`.
 use Rattle.std.proofs.Common.{◌≡◌, ℕ, ◌+◌, ◌<◌, ◌≤◌, true, false, Option, Some, None, List, [], ◌∷◌, ◌++◌, take, length, is_some, refl, sym, ◌∙◌, ap, subst, arith}
-use Rattle.std.proofs.Common.{inl, inr, if◌then◌else◌, cond, zero, suc}
+use Rattle.std.proofs.Common.{inl, inr, if◌then◌else◌, zero, suc}
 use Rattle.std.specs.Prelude.{IfSome, Bool, nat_le, not}
 use Rattle.std.specs.List.{slice_get}
 use Rattle.std.proofs.lemmas.Bool.{cases_Bool, cases_eq, leb-true, false≢true}
 use Rattle.std.proofs.lemmas.Nat.{pow_pos}
+use Rattle.std.proofs.lemmas.Option.{same_Some}
 use Rattle.std.proofs.lemmas.List.FromFn.{get_or-map-range_with_len, length-map-range_with_len}
 use Rattle.zone_blocks.specs.Areas.{IsFree}
 use Rattle.zone_blocks.proofs.Unique.{in_one_block, in_a_block_is_free}
@@ -32,6 +33,7 @@ use Rattle.step_rules.specs.{HasNoReference, IsUnused, ReturnsNoFrameTwice, TheP
 use Rattle.step_rules.specs.State.{State, sum_to}
 use Rattle.step_rules.proofs.LegalTests.{consume_tests, credit_tests, grant_tests, return_tests, unfreeze_tests}
 use Rattle.step_rules.proofs.Lists.{one_if_true}
+use Rattle.step_rules.proofs.Sums.{none_if}
 use Rattle.step_rules.proofs.PhaseLemmas.{free_is, live_is, listed_is, fresh_is, held_live, none_some, returning_is, Returns, AsEnded, AsKilled}
 use Rattle.step_rules.proofs.PhaseLemmas.{in_hand, InHand as Hand, WasCollected, WasBare, WasEnded}
 use Rattle.step_rules.proofs.Referring.{live_from_references}
@@ -64,9 +66,6 @@ unit_keeper InZone g k e = absurd (none_some _ e)
 unit_keeper (Lent p way) g k e = absurd (none_some _ e)
 unit_keeper (Tail h) g k e = absurd (none_some _ e)
 
-some_group : (a b : ℕ) → Some a ≡ Some b → a ≡ b
-some_group a b z = cc
-
 -- what holds after a legal run, of frames by the run
 module _ (zone : Zone) (run : Run) (legal : IsLegalRun zone run) where
   in_unit_kept : (f g : ℕ) → IsInUnit run g f → keeper_of ((state_of zone run).phases f) ≡ Some g
@@ -86,13 +85,13 @@ module _ (zone : Zone) (run : Run) (legal : IsLegalRun zone run) where
   kept_in_unit f g (Head u stage) was kept =
       let some = pow_pos u.order in
       let same : Some u ≡ Some (record { group = g; order = u.order }) =
-      ap (λ (h : ℕ). Some (record { group = h; order = u.order })) (some_group u.group g kept) in
+      ap (λ (h : ℕ). Some (record { group = h; order = u.order })) (same_Some u.group g kept) in
       (f, u.order, sym (units_follow_the_run zone run legal f).unit ∙ ap unit_of was ∙ same, record { from = omega arith; before = omega arith })
   kept_in_unit f g (Tail h) was kept =
       let head = heads_run zone run legal f h was in
       let low = head.4 in
       let same : Some head.1 ≡ Some (record { group = g; order = head.1.order }) =
-      ap (λ (k : ℕ). Some (record { group = k; order = head.1.order })) (head.3 ∙ some_group h g kept) in
+      ap (λ (k : ℕ). Some (record { group = k; order = head.1.order })) (head.3 ∙ same_Some h g kept) in
       (head.0, head.1.order, sym (units_follow_the_run zone run legal head.0).unit ∙ head.2 ∙ same, record { from = omega arith; before = head.5 })
 
   no_reference : (f : ℕ) → is_live_phase ((state_of zone run).phases f) ≡ false → HasNoReference run f
@@ -231,17 +230,13 @@ module _ (zone : Zone) (run : Run) (legal : IsLegalRun zone run) (shown : Shown)
   prepaid_shown g =
       let first = sum_front s.zone.cpus (λ p. stock_in_subtree s.groups g (s.parts p)) in
       let none : stock_in_subtree s.groups g (s.parts 0) ≡ 0 =
-      no_pages (is_in_subtree s.groups g (s.parts 0).stock.group) (s.parts 0).stock.pages (((keepers_are_there zone run legal).parts 0).no_cpu refl) in
+      none_if (is_in_subtree s.groups g (s.parts 0).stock.group) (s.parts 0).stock.pages (((keepers_are_there zone run legal).parts 0).no_cpu refl) in
       let size : s.zone.cpus + 1 ≡ suc s.zone.cpus = omega arith in
       let all : pages_prepaid s.groups s.parts s.zone.cpus g ≡ sum_to (suc s.zone.cpus) (λ p. stock_in_subtree s.groups g (s.parts p)) =
       ap (λ n. sum_to n (λ p. stock_in_subtree s.groups g (s.parts p))) size in
       let rest : pages_prepaid s.groups s.parts s.zone.cpus g ≡ sum_to s.zone.cpus (λ p. stock_in_subtree s.groups g (s.parts (p + 1))) = omega arith in
       rest ∙ (λ i. sum_to s.zone.cpus (λ p.
       if is_in_subtree (sym is.groups i) g (sym (is.stocks (p + 1)) i).group then (sym (is.stocks (p + 1)) i).pages else 0))
-    where
-      no_pages : (b : Bool) (n : ℕ) → n ≡ 0 → cond b n 0 ≡ 0
-      no_pages true n e = e
-      no_pages false n e = refl
 
   current_shown : (g : ℕ) → has_group shown.groups g ≡ true →
       (shown.current g ≡ kept_in_subtree shown s.zone.frames g + prepaid_in_subtree shown s.zone.cpus g) × (shown.current g ≡ charged_in_subtree run g)

@@ -28,6 +28,7 @@ use Rattle.step_rules.specs.{KeepsInvariant}
 use Rattle.step_rules.specs.State.{State}
 use Rattle.step_rules.proofs.LegalTests.{collect_tests, consume_tests, credit_tests, freeze_tests, pass_out_tests, put_tests}
 use Rattle.step_rules.proofs.LegalTests.{return_tests, take_in_tests, unfreeze_tests}
+use Rattle.step_rules.proofs.Sums.{none_if}
 use Rattle.step_rules.proofs.Basics.{at_same, at_other}
 use Rattle.step_rules.proofs.PhaseLemmas.{live_is, free_is, out_is, listed_is, fresh_is, in_hand, InHand, WasCollected, WasBare, WasEnded}
 use Rattle.step_rules.proofs.PhaseLemmas.{came_back, CameBack, FromList, FromFresh, FromBack, returning_is, Returns, AsEnded, AsKilled}
@@ -101,19 +102,15 @@ phase_changes phases f m y i o e =
           rw (ne_eqb f m ne) (omega arith)
     ]
 
-none_if : (b : Bool) → ◌≡◌ {A = ℕ} (cond b 0 0) 0
-none_if true = refl
-none_if false = refl
-
 stays : (phases : ℕ → Phase) (f m : ℕ) (y : Phase) → opens (phases f) ≡ opens y → opens (phases m) + 0 ≡ opens (with_at phases f y m) + 0
-stays phases f m y e = let a = phase_changes phases f m y 0 0 (omega arith) in let b = none_if (f == m) in omega arith
+stays phases f m y e = let a = phase_changes phases f m y 0 0 (omega arith) in let b = none_if (f == m) 0 refl in omega arith
 
 opened : (phases : ℕ → Phase) (f m : ℕ) (y : Phase) → opens (phases f) ≡ 0 → opens y ≡ 1 →
     opens (phases m) + cond (f == m) 1 0 ≡ opens (with_at phases f y m) + 0
-opened phases f m y e d = let a = phase_changes phases f m y 1 0 (omega arith) in let b = none_if (f == m) in omega arith
+opened phases f m y e d = let a = phase_changes phases f m y 1 0 (omega arith) in let b = none_if (f == m) 0 refl in omega arith
 
 undone : (phases : ℕ → Phase) (f m : ℕ) (y : Phase) → opens y ≡ 0 → opens (phases m) + 0 ≡ opens (with_at phases f y m) + cond (f == m) (opens (phases f)) 0
-undone phases f m y e = let a = phase_changes phases f m y 0 (opens (phases f)) (omega arith) in let b = none_if (f == m) in omega arith
+undone phases f m y e = let a = phase_changes phases f m y 0 (opens (phases f)) (omega arith) in let b = none_if (f == m) 0 refl in omega arith
 
 last_opens : (seat : ℕ) (u : ChargedUnit) → opens (at_stage (stage_after_last seat) (Head u Live)) ≡ 1
 last_opens seat u = by_seat (seat == 0)
@@ -265,7 +262,7 @@ uses_made m s seat Lock answer sound legal ok = refl
 uses_made m s seat action answer sound legal ok = refl
 
 -- ---- what is gone
-one_same : (a b : Bool) → one_if a ≡ one_if b → a ≡ b
+pub one_same : (a b : Bool) → one_if a ≡ one_if b → a ≡ b
 one_same true true e = refl
 one_same false false e = refl
 one_same true false e = absurd (omega arith)
@@ -307,20 +304,20 @@ gone_made f s x seat (Put g) Last sound holds made =
     let later = phase_awaits_return ((after s seat (Put g) Last).phases f) in
     let e : one_if (phase_awaits_return (s.phases f)) + cond (g == f) 1 0 ≡ one_if later + 0 = uses_made f s seat (Put g) Last sound made.legal made.answered in
     ap (λ b. cond (g == f) true b) holds
-    ∙ changed (g == f) (phase_awaits_return (s.phases f)) later 1 0 (let z = none_if (g == f) in omega arith) true
+    ∙ changed (g == f) (phase_awaits_return (s.phases f)) later 1 0 (let z = none_if (g == f) 0 refl in omega arith) true
     (λ same. let a : ◌≡◌ {A = ℕ} (cond (g == f) 1 0) 1 = ap (λ b. cond b 1 0) same in let top = ends later in omega arith)
 gone_made f s x seat (Freeze g n) Done sound holds made =
     let later = phase_awaits_return ((after s seat (Freeze g n) Done).phases f) in
     let e : one_if (phase_awaits_return (s.phases f)) + cond (g == f) 1 0 ≡ one_if later + 0 = uses_made f s seat (Freeze g n) Done sound made.legal made.answered in
     ap (λ b. cond (g == f) true b) holds
-    ∙ changed (g == f) (phase_awaits_return (s.phases f)) later 1 0 (let z = none_if (g == f) in omega arith) true
+    ∙ changed (g == f) (phase_awaits_return (s.phases f)) later 1 0 (let z = none_if (g == f) 0 refl in omega arith) true
     (λ same. let a : ◌≡◌ {A = ℕ} (cond (g == f) 1 0) 1 = ap (λ b. cond b 1 0) same in let top = ends later in omega arith)
 gone_made f s x seat (Unfreeze g n) Done sound holds made =
     let later = phase_awaits_return ((after s seat (Unfreeze g n) Done).phases f) in
     let was : ℕ = one_if (phase_awaits_return (s.phases g)) in
     let e : one_if (phase_awaits_return (s.phases f)) + 0 ≡ one_if later + cond (g == f) was 0 = uses_made f s seat (Unfreeze g n) Done sound made.legal made.answered in
     ap (λ b. cond (g == f) false b) holds
-    ∙ changed (g == f) (phase_awaits_return (s.phases f)) later 0 was (let z = none_if (g == f) in omega arith) false
+    ∙ changed (g == f) (phase_awaits_return (s.phases f)) later 0 was (let z = none_if (g == f) 0 refl in omega arith) false
     (λ same.
     let a : cond (g == f) was 0 ≡ was = ap (λ b. cond b was 0) same in
     let b : was ≡ one_if (phase_awaits_return (s.phases f)) = ap (λ (k : ℕ). one_if (phase_awaits_return (s.phases k))) (eqb-true g f same) in

@@ -26,7 +26,7 @@ pub allowed : (s : State) (seat : ℕ) (action : Action) (answer : Answer) → A
 allowed s seat action Illegal ok = inl refl
 allowed s seat action answer ok = inr ok
 
-sound_allowed : (s : State) (seat : ℕ) (action : Action) (answer : Answer) → KeepsInvariant s → Allows s seat action answer → KeepsInvariant (after s seat action answer)
+pub sound_allowed : (s : State) (seat : ℕ) (action : Action) (answer : Answer) → KeepsInvariant s → Allows s seat action answer → KeepsInvariant (after s seat action answer)
 sound_allowed s seat action answer sound ok =
     elim (allowed s seat action answer ok) [
       | inl illegal ↦ subst KeepsInvariant (sym (ap (after s seat action) illegal ∙ after_illegal s seat action)) sound
@@ -77,12 +77,12 @@ pub state_more : (zone : Zone) (run : Run) (step : Step) (answer : Answer) →
     state_of zone (one_more run step answer) ≡ after (state_of zone run) step.seat step.action answer
 state_more zone run step answer = fold_push next (at_boot zone) run (step, answer)
 
-get_before : {X : Type 0} (xs : List X) (x : X) (k : ℕ) → k < length xs → slice_get (xs ++ x ∷ []) k ≡ slice_get xs k
+pub get_before : {X : Type 0} (xs : List X) (x : X) (k : ℕ) → k < length xs → slice_get (xs ++ x ∷ []) k ≡ slice_get xs k
 get_before [] x k h = absurd (omega arith)
 get_before (y ∷ ys) x zero h = refl
 get_before (y ∷ ys) x (suc k) h = get_before ys x k (omega arith)
 
-get_last : {X : Type 0} (xs : List X) (x : X) → slice_get (xs ++ x ∷ []) (length xs) ≡ Some x
+pub get_last : {X : Type 0} (xs : List X) (x : X) → slice_get (xs ++ x ∷ []) (length xs) ≡ Some x
 get_last [] x = refl
 get_last (y ∷ ys) x = get_last ys x
 

@@ -1,7 +1,8 @@
 -- While the lock is free nothing is pending, and nothing passes.
-use Rattle.std.proofs.Common.{◌≡◌, ℕ, ◌==◌, Bool, true, false, refl, sym, ◌∙◌, ap, subst, arith, inl, inr, cond, if◌then◌else◌, eq-eqb}
+use Rattle.std.proofs.Common.{◌≡◌, ℕ, ◌==◌, true, false, refl, sym, ◌∙◌, ap, subst, arith, inl, inr, if◌then◌else◌, eq-eqb}
 use Rattle.std.specs.Prelude.{not}
 use Rattle.std.proofs.lemmas.Bool.{false≢true, true≢false, and_parts}
+use Rattle.group_tree.specs.{most_groups}
 use Rattle.group_tree.specs.Groups.{in_subtree}
 use Rattle.step_rules.specs.declared.phase.Hold.{Hold}
 use Rattle.step_rules.specs.declared.phase.Way.TheVariants.{PassingOut, PassingBack}
@@ -20,7 +21,7 @@ use Rattle.step_rules.specs.{Allows, no_page_pends, is_same_frame_place, place_i
 use Rattle.step_rules.specs.{KeepsInvariant, IsHomed}
 use Rattle.step_rules.specs.State.{State, all_to}
 use Rattle.step_rules.proofs.LegalTests.{drain_stock_tests, fill_tests, grant_tests, place_block_tests, ungrant_tests}
-use Rattle.step_rules.proofs.Sums.{sum_none, all_each}
+use Rattle.step_rules.proofs.Sums.{none_if, sum_none, all_each}
 use Rattle.step_rules.proofs.PhaseLemmas.{unheld_visit}
 use Rattle.step_rules.proofs.Keeping.{homed_run, settled_all}
 use Rattle.step_rules.proofs.Runs.{after_illegal, allowed, kept_along, sound_boot}
@@ -58,10 +59,6 @@ quit_boot : (zone : Zone) → IsQuit (at_boot zone)
 unfolding all_to
 quit_boot zone free = refl
 
-none_below : (b : Bool) (n : ℕ) → n ≡ 0 → cond b n 0 ≡ 0
-none_below true n e = e
-none_below false n e = refl
-
 -- a frame that passes for nobody and from nobody does not pass
 still_phase : (x : Phase) → ((q : ℕ) → passes_out q x ≡ true → ⊥) → ((q : ℕ) → passes_back q x ≡ true → ⊥) → is_passing x ≡ false
 still_phase (Lent q PassingOut) out back = absurd (out q (eq-eqb q q refl))
@@ -86,8 +83,8 @@ all_placed s sound homed free settled =
     record {
       pending = none;
       usage = λ g. let a : pages_pending s.groups s.pending g ≡ 0 =
-          sum_none 64 (λ h. if in_subtree s.groups g h then s.pending h else 0)
-          (λ h below. none_below (in_subtree s.groups g h) (s.pending h) (none h)) in omega arith;
+          sum_none most_groups (λ h. if in_subtree s.groups g h then s.pending h else 0)
+          (λ h below. none_if (in_subtree s.groups g h) (s.pending h) (none h)) in omega arith;
       still = all_each s.zone.frames (λ f. not (is_passing (s.phases f))) (λ f below. ap not (rests f));
       listed = λ f p. sound.lists p ListFrame f ∙ ap one_if (on_its_list p (s.phases f) (rests f));
     }

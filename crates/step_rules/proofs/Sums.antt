@@ -1,5 +1,5 @@
 -- Sums of the first values of a function.
-use Rattle.std.proofs.Common.{◌≡◌, ℕ, ◌+◌, ◌<◌, ◌≤◌, Bool, true, refl, sym, ◌∙◌, ap, arith, inl, inr, zero, suc}
+use Rattle.std.proofs.Common.{◌≡◌, ℕ, ◌+◌, ◌<◌, ◌≤◌, Bool, true, false, cond, refl, sym, ◌∙◌, ap, arith, inl, inr, zero, suc}
 use Rattle.std.proofs.lemmas.Bool.{cases_eq, and_parts}
 use Rattle.step_rules.specs.State.{sum_to, all_to, with_at}
 use Rattle.step_rules.proofs.Basics.{at_same, at_other}
@@ -13,6 +13,11 @@ pub sum_none : (n : ℕ) (h : ℕ → ℕ) → ((i : ℕ) → i < n → h i ≡ 
 unfolding sum_to
 sum_none zero h each = refl
 sum_none (suc n) h each = let a = sum_none n h (λ i below. each i (omega arith)) in let b = each n (omega arith) in omega arith
+
+-- a choice of two that are 0
+pub none_if : (b : Bool) (n : ℕ) → n ≡ 0 → cond b n 0 ≡ 0
+none_if true n e = e
+none_if false n e = refl
 
 pub sum_both : (n : ℕ) (g h : ℕ → ℕ) → sum_to n (λ i. g i + h i) ≡ sum_to n g + sum_to n h
 unfolding sum_to

@@ -1,5 +1,6 @@
 -- What a stock word says, and which words are a CPU's.
 use Rattle.std.specs.Prelude.{ℕ, ◌+◌, ◌*◌, ◌<◌, Bool, true, false, Option, Some, None}
+use Rattle.group_tree.specs.{most_groups}
 use Rattle.stock_word.specs.declared.stock.Stock.{Stock}
 use Rattle.stock_word.specs.declared.stock.Stock.TheVariants.{NoGroup, HeldBy, DrainedOf}
 
@@ -17,11 +18,11 @@ word_of NoGroup = 0
 word_of (HeldBy g n) = (g + 1) * group_base + n
 word_of (DrainedOf g) = drained_base + (g + 1) * group_base
 
--- the stock has a word: its group is one of 64, and its pages are below `group_base`
+-- the stock has a word: the number of its group is a group's, and its pages are below `group_base`
 abbrev pub HasWord : Stock → Type 0
 HasWord NoGroup = Unit {0}
-HasWord (HeldBy g n) = (g < 64) × (n < group_base)
-HasWord (DrainedOf g) = g < 64
+HasWord (HeldBy g n) = (g < most_groups) × (n < group_base)
+HasWord (DrainedOf g) = g < most_groups
 
 -- the pages in a stock
 abbrev pub stock_pages_of : Stock → ℕ

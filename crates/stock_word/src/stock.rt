@@ -6,7 +6,7 @@ const GROUP: u64 = 1 << 16;
 // The word of a drained stock is this or more.
 const DRAINED: u64 = 1 << 32;
 
-/// What a CPU has prepaid. Groups are numbers from 0 to 63.
+/// What a CPU has prepaid. Groups are numbers below `MAX_GROUPS` of `group_tree`.
 #[derive(Clone, Copy, Debug, PartialEq, Eq)]
 pub enum Stock {
     /// No group yet: the stock was never filled.

@@ -7,7 +7,7 @@ ghost use Rattle.mem_system.specs.{IsOfZone, HasEnded};
 
 use anyhow::{Context, Result, anyhow};
 use cpu_part::BootName;
-use mem_system::{Boot, Cpu, LockedCommand, Outcome, ReplyWithText, System, SystemEnd, boot};
+use mem_system::{Boot, Cpu, Outcome, ReplyWithText, System, SystemEnd, TextCommand, boot};
 use reply_texts::{write_fast, write_get, write_put, write_reply};
 use std::alloc::Global;
 use std::marker::Brand;
@@ -64,14 +64,14 @@ fn run_demo<N: BootName, R: Wait>(
     let second = others.first_mut().context("no second cpu")?;
     let tables = system.tables();
     let (path, file, value): (&[u8], &[u8], &[u8]) = (b"/web", b"memory.max", b"32K");
-    let ReplyWithText::Group(group) = system.visit(rt, first, &LockedCommand::Mkdir { path }) else {
+    let ReplyWithText::Group(group) = system.visit(rt, first, &TextCommand::Mkdir { path }) else {
         return Err(anyhow!("no group"));
     };
     ask(
         rt,
         system,
         first,
-        &LockedCommand::Write { path, file, value },
+        &TextCommand::Write { path, file, value },
         text,
     )?;
     let Outcome::Frame(number) = system.alloc_dirty(rt, first, path, 0) else {
@@ -79,10 +79,10 @@ fn run_demo<N: BootName, R: Wait>(
     };
     let shared = tables.words.frame(number).context("no such frame")?;
     write_fast(&first.alloc_fast(tables, group.number()), text)?;
-    ask(rt, system, first, &LockedCommand::Settle, text)?;
+    ask(rt, system, first, &TextCommand::Settle, text)?;
     write_get(&second.get(tables, shared)?, text)?;
     let frame = shared.number();
-    ask(rt, system, first, &LockedCommand::Release { frame }, text)?;
+    ask(rt, system, first, &TextCommand::Release { frame }, text)?;
     if second.has_pin(shared) {
         write_put(&second.put(tables, shared), text)?;
     }
@@ -90,17 +90,11 @@ fn run_demo<N: BootName, R: Wait>(
         rt,
         system,
         second,
-        &LockedCommand::Alloc { path, order: 4 },
+        &TextCommand::Alloc { path, order: 4 },
         text,
     )?;
     let file: &[u8] = b"memory.current";
-    ask(
-        rt,
-        system,
-        second,
-        &LockedCommand::Read { path, file },
-        text,
-    )
+    ask(rt, system, second, &TextCommand::Read { path, file }, text)
 }
 
 // Makes a visit, which takes the zone's lock, and adds the text of the reply.
@@ -108,7 +102,7 @@ fn ask<N: BootName, R: Wait>(
     rt: &R,
     system: &System<N>,
     cpu: &mut Cpu<N>,
-    cmd: &LockedCommand<'_>,
+    cmd: &TextCommand<'_>,
     text: &mut String,
 ) -> Result<()>
     requires { IsOfZone N.table cmd.now }

@@ -1,4 +1,4 @@
--- A group is found by its path, and so a frame that is taken for the group is taken for its path. Serves `take_frame`.
+-- A group is found by its path, and so a block that is taken for the group is taken for its path. Serves `take_block`.
 use Rattle.std.proofs.Common.{◌≡◌, ℕ, Some, List, refl, subst}
 use Rattle.std.specs.Borrow.{Bor}
 use Rattle.group_tree.specs.declared.group.Group.{Group}
@@ -20,19 +20,19 @@ found_by_path groups n path are is =
     let by_its_number = number_at-there groups at.0 are.paths_distinct there.0 in
     subst (λ (p : List ℕ). number_at groups p ≡ Some n) at.2 (subst (λ (m : ℕ). number_at groups at.0.path ≡ Some m) there.1 by_its_number)
 
-module _ (frames : KnownTable) (cpu group : ℕ) (from to : KnownLive) (value : AnswerValue) where
+module _ (frames : KnownTable) (cpu group order : ℕ) (from to : KnownLive) (value : AnswerValue) where
   abbrev groups : List Group
   groups = from.state.locked.machine.ledger.groups
 
   abbrev after : Ledger
   after = to.state.locked.machine.ledger
 
-  pub frame_taken : (path : Bor (List ℕ)) → IsCpu from.sizes.cpus cpu → AreCharges from.state.locked.machine.ledger → path_of groups group ≡ Some path.now
+  pub block_taken : (path : Bor (List ℕ)) → IsCpu from.sizes.cpus cpu → AreCharges from.state.locked.machine.ledger → path_of groups group ≡ Some path.now
       → ((named : Bor (List ℕ)) → number_at groups named.now ≡ Some group
-      → SaysCommand frames cpu (cmd.Alloc named 0) from.state to.state (answer_of after value))
-      → NamesItsGroups after value → SameButState from to → CallsLive frames cpu (call.Alloc group 0) from to (returned.Served value)
-  frame_taken path exists legal is says there rest = record {
-    command = cmd.Alloc path 0;
+      → SaysCommand frames cpu (cmd.Alloc named order) from.state to.state (answer_of after value))
+      → NamesItsGroups after value → SameButState from to → CallsLive frames cpu (call.Alloc group order) from to (returned.Served value)
+  block_taken path exists legal is says there rest = record {
+    command = cmd.Alloc path order;
     means = (is, refl);
     tells = record {
       answer = answer_of after value;

@@ -168,24 +168,25 @@ impl<N: BootName> Live<N> {
         let Some(group) = find_group(self.locked.charges(), group) else {
             return CallAnswer::NoGroup;
         };
-        if order == 0 {
-            return self.take_frame(cpu, group);
-        }
-        let path = *self.locked.charges().tree().path_of(group);
-        let path = path.as_bytes();
-        self.serve(cpu, &Command::Alloc { path, order })
+        self.take_block(cpu, group, order)
     }
 
-    // Takes a single frame for an existing group, at a CPU that is there. The group's path is neither copied nor looked
-    // up.
+    // Takes a block for an existing group, at a CPU that is there. The group's path is neither copied nor looked up.
     #[inline(always)]
-    fn take_frame(&mut self, cpu: u32, group: GroupId) -> CallAnswer
+    fn take_block(&mut self, cpu: u32, group: GroupId, order: u32) -> CallAnswer
         requires there { IsCpu (length self.old.state.cpus) cpu }
         requires group { IsTrue (has_group self.old.state.locked.machine.ledger.groups group) }
-        ensures { CallsLive N.table cpu (Alloc group 0) self.old self.new result }
+        ensures { CallsLive N.table cpu (Alloc group order) self.old self.new result }
     {
         let _path = self.locked.charges().tree().path_of(group).as_bytes(); // Called for its contract.
-        CallAnswer::Served(alloc_value(&mut self.locked, &self.tables, &mut self.cpus, cpu, group))
+        CallAnswer::Served(alloc_value(
+            &mut self.locked,
+            &self.tables,
+            &mut self.cpus,
+            cpu,
+            group,
+            order,
+        ))
     }
 
     /// Whether the CPU of this number may have one more pin, of a block of this order. The CPU is looked for first, and

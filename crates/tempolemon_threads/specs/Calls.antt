@@ -3,12 +3,13 @@ use Rattle.std.specs.Prelude.{◌≡◌, ◌⊎◌, ℕ, zero, suc, ◌<◌, ◌
 use Rattle.group_tree.specs.Faults.{number_of}
 use Rattle.group_tree.specs.declared.fault.Fault.TheVariants.{NoGroup}
 use Rattle.control_files.specs.Text.{longest_text}
-use Rattle.mem_system.specs.declared.command.LockedCommand.{LockedCommand}
-use Rattle.mem_system.specs.declared.command.LockedCommand.TheVariants as cmd
+use Rattle.mem_system.specs.declared.text_command.TextCommand.{TextCommand}
+use Rattle.mem_system.specs.declared.text_command.TextCommand.TheVariants as cmd
 use Rattle.zone_threads.specs.{Calls, AnswersRead, ReadsText}
 use Rattle.zone_threads.specs.declared.calls.Call.{Call}
-use Rattle.zone_threads.specs.declared.calls.Call.TheVariants.{AllocBlock, AllocFrame, Visit}
+use Rattle.zone_threads.specs.declared.calls.Call.TheVariants.{AllocFrame, ForGroup, Visit}
 use Rattle.zone_threads.specs.declared.calls.CallAnswer.{CallAnswer}
+use Rattle.zone_threads.specs.declared.calls.GroupAct.TheVariants.{Alloc}
 use Rattle.zone_threads.specs.declared.calls.ReadAnswer.{ReadAnswer}
 use Rattle.zone_threads.specs.declared.calls.ReadAnswer.TheVariants as read
 use Rattle.zone_threads.specs.declared.calls.ReadCall.{ReadCall}
@@ -49,27 +50,27 @@ limit_of_pages pages = if nat_lt pages (2 ^ 32) then Some pages else None
 -- what an allocation does: a single frame may need no lock
 abbrev pub AllocsPart : (group order : ℕ) (before after : Option Led) (status : ℕ) (out : TypedResult) → Type 0
 AllocsPart group zero before after status out = CallsPart (AllocFrame group) before after status out
-AllocsPart group (suc less) before after status out = CallsPart (AllocBlock group (suc less)) before after status out
+AllocsPart group (suc less) before after status out = CallsPart (ForGroup group (Alloc (suc less))) before after status out
 
 -- a command with these texts was given
-pub record GivesCommand (is_asked : LockedCommand → Type 0) (before after : Option Led) (status : ℕ) (out : TypedResult)
+pub record GivesCommand (is_asked : TextCommand → Type 0) (before after : Option Led) (status : ℕ) (out : TypedResult)
     : Type 0 where
-  pub asked : LockedCommand
+  pub asked : TextCommand
   pub is : is_asked asked
   pub calls : CallsPart (Visit asked) before after status out
 
 -- the command makes the group of this path
-abbrev pub IsMkdirCommand : (path : List ℕ) → LockedCommand → Type 0
+abbrev pub IsMkdirCommand : (path : List ℕ) → TextCommand → Type 0
 IsMkdirCommand path (cmd.Mkdir named) = named.now ≡ path
 IsMkdirCommand path other = ⊥
 
 -- the command removes the group of this path
-abbrev pub IsRmdirCommand : (path : List ℕ) → LockedCommand → Type 0
+abbrev pub IsRmdirCommand : (path : List ℕ) → TextCommand → Type 0
 IsRmdirCommand path (cmd.Rmdir named) = named.now ≡ path
 IsRmdirCommand path other = ⊥
 
 -- the command writes this value to this file of the group of this path
-abbrev pub IsWriteCommand : (path file value : List ℕ) → LockedCommand → Type 0
+abbrev pub IsWriteCommand : (path file value : List ℕ) → TextCommand → Type 0
 IsWriteCommand path file value (cmd.Write named in_file text) =
     (named.now ≡ path) × ((in_file.now ≡ file) × (text.now ≡ value))
 IsWriteCommand path file value other = ⊥

@@ -1,17 +1,18 @@
 //! The calls that allocate, release, pin and note frames. None of them takes memory.
 
-ghost use Rattle.mem_system.specs.declared.command.LockedCommand.TheVariants.{Clean, Dirty, Owner, Touch};
-ghost use Rattle.zone_threads.specs.declared.calls.Call.TheVariants.{AllocDirty, AllocPinned, Get, Put, Release, Settle};
+ghost use Rattle.mem_system.specs.declared.text_command.TextCommand.TheVariants.{Clean, Dirty, Owner, Touch};
+ghost use Rattle.zone_threads.specs.declared.calls.Call.TheVariants.{AllocPinned, ForGroup, Get, Put, Release, Settle};
 ghost use Rattle.zone_threads.specs.declared.calls.Call.TheVariants.{Visit};
+ghost use Rattle.zone_threads.specs.declared.calls.GroupAct.TheVariants.{AllocDirty};
 ghost use Rattle.tempolemon_threads.specs.Behind.{part_behind};
 ghost use Rattle.tempolemon_threads.specs.Calls.{AllocsPart, CallsPart};
 
 use crate::calling::serve_call;
 use crate::handles::CpuPart;
 use host_memory::typed_result::TypedResult;
-use mem_system::LockedCommand;
+use mem_system::TextCommand;
 use std::alloc::Global;
-use zone_threads::calls::Call;
+use zone_threads::calls::{Call, GroupAct};
 
 /// Takes a block of 2^order frames, charged to the group of this number: if it is a single frame, of the CPU's list and
 /// stock, if they can serve. Else it tries the lock.
@@ -28,7 +29,8 @@ pub extern "C" fn tempolemon_try_alloc(
     if order == 0 {
         serve_call(alloc, part, &Call::AllocFrame { group }, out)
     } else {
-        serve_call(alloc, part, &Call::AllocBlock { group, order }, out)
+        let act = GroupAct::Alloc(order);
+        serve_call(alloc, part, &Call::ForGroup { group, act }, out)
     }
 }
 
@@ -42,9 +44,10 @@ pub extern "C" fn tempolemon_try_alloc_dirty(
     order: u32,
     out: &mut TypedResult,
 ) -> u8
-    ensures { CallsPart (AllocDirty group order) (part_behind part.old) (part_behind part.new) result out.new }
+    ensures { CallsPart (ForGroup group (AllocDirty order)) (part_behind part.old) (part_behind part.new) result out.new }
 {
-    serve_call(alloc, part, &Call::AllocDirty { group, order }, out)
+    let act = GroupAct::AllocDirty(order);
+    serve_call(alloc, part, &Call::ForGroup { group, act }, out)
 }
 
 /// Takes a block of 2^order frames, of order 1 to 10, charged to the group of this number, and pins it for the CPU,
@@ -112,7 +115,7 @@ pub extern "C" fn tempolemon_try_touch(
 ) -> u8
     ensures { CallsPart (Visit (Touch frame)) (part_behind part.old) (part_behind part.new) result out.new }
 {
-    let cmd = LockedCommand::Touch { frame };
+    let cmd = TextCommand::Touch { frame };
     serve_call(alloc, part, &Call::Visit(cmd), out)
 }
 
@@ -126,7 +129,7 @@ pub extern "C" fn tempolemon_try_dirty(
 ) -> u8
     ensures { CallsPart (Visit (Dirty frame)) (part_behind part.old) (part_behind part.new) result out.new }
 {
-    let cmd = LockedCommand::Dirty { frame };
+    let cmd = TextCommand::Dirty { frame };
     serve_call(alloc, part, &Call::Visit(cmd), out)
 }
 
@@ -140,7 +143,7 @@ pub extern "C" fn tempolemon_try_clean(
 ) -> u8
     ensures { CallsPart (Visit (Clean frame)) (part_behind part.old) (part_behind part.new) result out.new }
 {
-    let cmd = LockedCommand::Clean { frame };
+    let cmd = TextCommand::Clean { frame };
     serve_call(alloc, part, &Call::Visit(cmd), out)
 }
 
@@ -154,7 +157,7 @@ pub extern "C" fn tempolemon_try_owner(
 ) -> u8
     ensures { CallsPart (Visit (Owner frame)) (part_behind part.old) (part_behind part.new) result out.new }
 {
-    let cmd = LockedCommand::Owner { frame };
+    let cmd = TextCommand::Owner { frame };
     serve_call(alloc, part, &Call::Visit(cmd), out)
 }
 

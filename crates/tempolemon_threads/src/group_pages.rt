@@ -2,19 +2,20 @@
 //! takes memory, and each tries the lock.
 
 ghost use Rattle.std.specs.Prelude.{◌≡◌};
-ghost use Rattle.control_files.specs.declared.file.File.TheVariants as file;
-ghost use Rattle.zone_threads.specs.declared.calls.Call.TheVariants.{ReadPages, WritePages};
+ghost use Rattle.mem_system.specs.declared.setting.Setting.TheVariants as setting;
+ghost use Rattle.zone_threads.specs.declared.calls.Call.TheVariants.{ForGroup, ReadPages};
+ghost use Rattle.zone_threads.specs.declared.calls.GroupAct.TheVariants as act;
 ghost use Rattle.zone_threads.specs.declared.calls.GroupPages.TheVariants.{High, Max, Peak, Usage};
 ghost use Rattle.tempolemon_threads.specs.Behind.{part_behind};
 ghost use Rattle.tempolemon_threads.specs.Calls.{CallsPart, limit_of_pages};
 
 use crate::calling::serve_call;
 use crate::handles::CpuPart;
-use control_files::file::File;
 use control_files::limit::Limit;
 use host_memory::typed_result::TypedResult;
+use mem_system::Setting;
 use std::alloc::Global;
-use zone_threads::calls::{Call, GroupPages};
+use zone_threads::calls::{Call, GroupAct, GroupPages};
 
 /// Reads the usage of the group of this number and those below it, in pages. The CPU isn't settled.
 #[unsafe(no_mangle)]
@@ -81,12 +82,11 @@ pub extern "C" fn tempolemon_try_set_max(
     pages: u64,
     out: &mut TypedResult,
 ) -> u8
-    ensures { CallsPart (WritePages group file.Max (limit_of_pages pages))
+    ensures { CallsPart (ForGroup group (act.Write (setting.Max (limit_of_pages pages))))
         (part_behind part.old) (part_behind part.new) result out.new }
 {
-    let file = File::Max;
-    let pages = limit_of_pages(pages);
-    serve_call(alloc, part, &Call::WritePages { group, file, pages }, out)
+    let act = GroupAct::Write(Setting::Max(limit_of_pages(pages)));
+    serve_call(alloc, part, &Call::ForGroup { group, act }, out)
 }
 
 /// Sets memory.high of the group of this number, as a write of it does.
@@ -98,12 +98,11 @@ pub extern "C" fn tempolemon_try_set_high(
     pages: u64,
     out: &mut TypedResult,
 ) -> u8
-    ensures { CallsPart (WritePages group file.High (limit_of_pages pages))
+    ensures { CallsPart (ForGroup group (act.Write (setting.High (limit_of_pages pages))))
         (part_behind part.old) (part_behind part.new) result out.new }
 {
-    let file = File::High;
-    let pages = limit_of_pages(pages);
-    serve_call(alloc, part, &Call::WritePages { group, file, pages }, out)
+    let act = GroupAct::Write(Setting::High(limit_of_pages(pages)));
+    serve_call(alloc, part, &Call::ForGroup { group, act }, out)
 }
 
 /// Reclaims so many pages from the group of this number and those below it, as a write of memory.reclaim does.
@@ -115,12 +114,11 @@ pub extern "C" fn tempolemon_try_reclaim(
     pages: u64,
     out: &mut TypedResult,
 ) -> u8
-    ensures { CallsPart (WritePages group file.Reclaim (limit_of_pages pages))
+    ensures { CallsPart (ForGroup group (act.Reclaim (limit_of_pages pages)))
         (part_behind part.old) (part_behind part.new) result out.new }
 {
-    let file = File::Reclaim;
-    let pages = limit_of_pages(pages);
-    serve_call(alloc, part, &Call::WritePages { group, file, pages }, out)
+    let act = GroupAct::Reclaim(limit_of_pages(pages));
+    serve_call(alloc, part, &Call::ForGroup { group, act }, out)
 }
 
 // So many pages as a limit: 2^32 pages or more are none, as in the files.

@@ -13,7 +13,7 @@ use host_memory::buffers::copy_answers;
 use host_memory::kinds::{NOTHING, REFUSED, TEXT};
 use host_memory::status::{DONE, NOT_LIVE, SMALL_BUFFER};
 use host_memory::typed_result::TypedResult;
-use mem_system::LockedCommand;
+use mem_system::TextCommand;
 use std::alloc::Global;
 use zone_threads::calls::{Call, ReadAnswer, ReadCall};
 
@@ -27,7 +27,7 @@ pub extern "C" fn tempolemon_try_mkdir(
 ) -> u8
     ensures { GivesCommand (IsMkdirCommand path.now) (part_behind part.old) (part_behind part.new) result out.new }
 {
-    let cmd = LockedCommand::Mkdir { path };
+    let cmd = TextCommand::Mkdir { path };
     serve_call(alloc, part, &Call::Visit(cmd), out)
 }
 
@@ -41,7 +41,7 @@ pub extern "C" fn tempolemon_try_rmdir(
 ) -> u8
     ensures { GivesCommand (IsRmdirCommand path.now) (part_behind part.old) (part_behind part.new) result out.new }
 {
-    let cmd = LockedCommand::Rmdir { path };
+    let cmd = TextCommand::Rmdir { path };
     serve_call(alloc, part, &Call::Visit(cmd), out)
 }
 
@@ -58,7 +58,7 @@ pub extern "C" fn tempolemon_try_write(
     ensures { GivesCommand (IsWriteCommand path.now file.now value.now)
         (part_behind part.old) (part_behind part.new) result out.new }
 {
-    let cmd = LockedCommand::Write { path, file, value };
+    let cmd = TextCommand::Write { path, file, value };
     serve_call(alloc, part, &Call::Visit(cmd), out)
 }
 

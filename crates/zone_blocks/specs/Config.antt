@@ -30,7 +30,7 @@ most_reclaim_batch = 64
 -- The choices of a boot that makes none: passes of reclaim begin with the least group, groups may be killed, and a
 -- round wants the pages that are missing.
 abbrev pub no_choices : Choices
-no_choices = record { is_fair = false; is_no_kill = false; reclaim_batch = 1 }
+no_choices = record { is_proportional = false; is_no_kill = false; reclaim_batch = 1 }
 
 -- a round of reclaim has to want at least one page, and at most the greatest number
 pub record AreValidChoices (choices : Choices) : Type 0 where

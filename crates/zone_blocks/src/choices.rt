@@ -5,8 +5,8 @@ ghost use Rattle.std.specs.Prelude.{◌↔◌, IsTrue};
 /// The choices of a boot: how the zone reclaims, and whether it kills.
 #[derive(Clone, Copy, Debug, PartialEq, Eq)]
 pub struct Choices {
-    /// Whether turns go round: a pass of reclaim begins after the group that had the last turn.
-    pub is_fair: bool,
+    /// Whether a reclaim begins with a pass of shares: each group gives back pages in proportion to its clean pages.
+    pub is_proportional: bool,
     /// Whether no group is killed: a charge that finds no room even after reclaim is refused, whatever its order, and a
     /// limit that is written below the usage may stay below it.
     pub is_no_kill: bool,
@@ -20,7 +20,7 @@ impl Choices {
 
     /// The choices of a boot that makes none.
     pub const NONE: Choices = Choices {
-        is_fair: false,
+        is_proportional: false,
         is_no_kill: false,
         reclaim_batch: 1,
     };

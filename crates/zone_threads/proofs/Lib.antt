@@ -1,3 +1,4 @@
 mod UnitsShown
 mod Reading
 mod Pinning
+mod Visited

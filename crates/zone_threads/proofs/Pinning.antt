@@ -2,7 +2,6 @@
 -- what such a call answers. Serves `Behind::alloc_pinned` and `Home::alloc_pinned`.
 use Rattle.std.proofs.Common.{◌≡◌, ◌≢◌, ◌∙◌, ℕ, ◌≤◌, Some, List, [], ◌∷◌, ◌++◌, length, ap, arith, inl, inr, refl, subst}
 use Rattle.std.specs.Prelude.{Ok}
-use Rattle.std.specs.Borrow.{Bor}
 use Rattle.std.proofs.lemmas.Bool.{cases_Bool}
 use Rattle.frame_word.specs.declared.answers.Get.{Get}
 use Rattle.frame_word.specs.declared.answers.Get.TheVariants.{Full, Held, Raced, Zero}
@@ -25,12 +24,11 @@ use Rattle.mem_machine.specs.{visit_state}
 use Rattle.mem_alloc.specs.{AllocatesBlock}
 use Rattle.mem_system.specs.declared.command.LockedCommand.{LockedCommand}
 use Rattle.mem_system.specs.declared.command.LockedCommand.TheVariants.{Alloc}
-use Rattle.mem_system.specs.declared.command.ReplyWithText.TheVariants.{Frame}
 use Rattle.mem_system.specs.declared.outcome.Outcome.{Outcome}
 use Rattle.mem_system.specs.declared.outcome.Outcome.TheVariants as outcome
-use Rattle.mem_system.specs.{CpuInRun, IsServed, LockedState, ServesOutcome}
+use Rattle.mem_system.specs.{CpuInRun, IsServed, LockedState}
 use Rattle.zone_threads.specs.Calling.{AllocatesPinned, Calls, CallsAllocPinned, FindsReferences, HasPinRoom, IsMissedFor, MayPinBlock, MissesPin, Pins}
-use Rattle.zone_threads.specs.Calling.{ServesBlock, ServesPinned}
+use Rattle.zone_threads.specs.Calling.{ServesPinned}
 use Rattle.zone_threads.specs.{KnownHome}
 use Rattle.zone_threads.specs.declared.calls.Call.TheVariants.{AllocPinned}
 use Rattle.zone_threads.specs.declared.calls.CallAnswer.{CallAnswer}
@@ -70,11 +68,11 @@ settled_pins : (t : KnownTable) (m n : VisitState) → Settles t m n → pins_at
 settled_pins t m n s = all_back_pins m.cpu.back s.mid n s.back ∙ all_fresh_pins t m.cpu.fresh m s.mid s.fresh
 
 -- after the allocation no frame is back, and the pins are the same
-pub room_left : (t : KnownTable) (path : Bor (List ℕ)) (order f : ℕ) (start now : LockedState) → 1 ≤ order
-    → IsServed t (Alloc path order) (Frame f) start now → now.cpu.part.back ≡ [] → HasPinRoom start.cpu → HasPinRoom now.cpu
-room_left t path order f start now some a back room =
+pub room_left : (t : KnownTable) (group order f : ℕ) (start now : LockedState) → 1 ≤ order
+    → IsServed t (Alloc group order) (outcome.Frame f) start now → now.cpu.part.back ≡ [] → HasPinRoom start.cpu → HasPinRoom now.cpu
+room_left t group order f start now some a back room =
     let call = transition t a.serves.settled a.serves.inner (visit_state a.serves.done now.cpu.part) in
-    let block = block_pins a.serves.executes.group order f call (a.serves.executes.allocates.block (λ e. omega (arith, e, some))) in
+    let block = block_pins group order f call (a.serves.executes.1.block (λ e. omega (arith, e, some))) in
     let pins = ap length (block ∙ settled_pins t _ a.serves.settled a.serves.settles) in
     let none = ap length back in omega (arith, pins, none, room)
 
@@ -114,7 +112,7 @@ missed_by t frame (Raced found) from to apart asks legal = asks.raced
 
 -- the next visit shows that the CPU's past is legal
 pub missed_for : (t : KnownTable) (frame : ℕ) (next : LockedCommand) (given : Outcome) (from : CpuInRun) (missed after : LockedState)
-    → (pin : MissesPin t frame from missed.cpu) → ServesOutcome t next given missed after → IsMissedFor t frame pin.got from missed.cpu
+    → (pin : MissesPin t frame from missed.cpu) → IsServed t next given missed after → IsMissedFor t frame pin.got from missed.cpu
 missed_for t frame next given from missed after pin served =
     let zone = zone_of_boot t in
     let locks = served.taken.locks in
@@ -127,7 +125,7 @@ missed_for t frame next given from missed after pin served =
 
 -- if no frame was given, the refusal is that of the allocation
 pub refusal_served : (t : KnownTable) (group order : ℕ) (given : Outcome) (before after : LockedState) → ((f : ℕ) → given ≢ outcome.Frame f)
-    → ServesBlock t group order given before after → ServesPinned t group order given before after
+    → IsServed t (Alloc group order) given before after → ServesPinned t group order given before after
 refusal_served t group order (outcome.Frame f) before after none served = absurd (none f refl)
 refusal_served t group order other before after none served = served
 

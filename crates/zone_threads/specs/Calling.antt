@@ -1,17 +1,14 @@
 -- What each call does to the CPU of a thread, by its answer, and by which steps of the run.
-use Rattle.std.specs.Prelude.{◌≡◌, ◌≢◌, ◌+◌, ◌<◌, ◌≤◌, ◌⊎◌, ◌++◌, ◌∷◌, [], ℕ, true, false, List, length, None, Ok, Option}
+use Rattle.std.specs.Prelude.{◌≡◌, ◌≢◌, ◌+◌, ◌<◌, ◌≤◌, ◌⊎◌, ◌++◌, ◌∷◌, [], ℕ, zero, suc, true, false, List, length, None, Ok, Option}
 use Rattle.std.specs.Prelude.{Some}
-use Rattle.std.specs.Borrow.{Bor}
 use Rattle.frame_word.specs.declared.answers.Get.{Get}
 use Rattle.frame_word.specs.declared.answers.Get.TheVariants.{Full, Held, Raced, Zero}
 use Rattle.frame_word.specs.declared.answers.Put.{Put}
 use Rattle.zone_blocks.specs.declared.config.Config.{Config}
-use Rattle.group_tree.specs.{most_groups, has_group, limit_of, path_of}
+use Rattle.group_tree.specs.{most_groups, has_group, limit_of}
 use Rattle.group_tree.specs.declared.group.Group.{Group}
-use Rattle.group_tree.specs.declared.fault.Fault.TheVariants.{BadOrder, NotPinned, PinsFull}
+use Rattle.group_tree.specs.declared.fault.Fault.TheVariants.{BadLimit, BadOrder, NoFile, NotPinned, PinsFull}
 use Rattle.group_charge.specs.Charges.{Ledger, current_of, peak_of, settings_of}
-use Rattle.control_files.specs.declared.file.File.{File}
-use Rattle.control_files.specs.Files.{limit_text, name_of_file}
 use Rattle.boot_words.specs.{GrewByAll, OthersFollow, RacesAt, own_past, zone_of_boot, KnownTable}
 use Rattle.boot_words.specs.Pasts.{get_said}
 use Rattle.step_rules.specs.State.{times, most_pins, most_references}
@@ -23,16 +20,20 @@ use Rattle.cpu_part.specs.declared.answers.Dropped.TheVariants.{Listed, NeedVisi
 use Rattle.cpu_part.specs.declared.answers.Fast.{Fast}
 use Rattle.cpu_part.specs.declared.answers.Fast.TheVariants.{Got}
 use Rattle.mem_system.specs.{IsOfZone, CpuInRun, ServesDirtyAlloc, SeenBehindLock, SettlesCaller, IsServed, IsVisited, LockedState}
-use Rattle.mem_system.specs.{ServesFrameOutcome, ServesOutcome}
+use Rattle.mem_system.specs.{RepliesTo, ServesText}
 use Rattle.mem_system.specs.declared.command.LockedCommand.TheVariants as cmd
 use Rattle.mem_system.specs.declared.command.ReplyWithText.TheVariants as reply
 use Rattle.mem_system.specs.declared.outcome.Outcome.{Outcome}
-use Rattle.mem_system.specs.declared.outcome.Outcome.TheVariants.{Frame}
+use Rattle.mem_system.specs.declared.outcome.Outcome.TheVariants.{Frame, Refused}
+use Rattle.mem_system.specs.declared.setting.Setting.TheVariants.{Reclaim}
+use Rattle.mem_system.specs.declared.text_command.TextCommand.TheVariants as command
 use Rattle.zone_threads.specs.Homes.{KnownHome, OnCpu}
 use Rattle.zone_threads.specs.declared.calls.Call.{Call}
 use Rattle.zone_threads.specs.declared.calls.Call.TheVariants as call
 use Rattle.zone_threads.specs.declared.calls.CallAnswer.{CallAnswer}
 use Rattle.zone_threads.specs.declared.calls.CallAnswer.TheVariants as answer
+use Rattle.zone_threads.specs.declared.calls.GroupAct.{GroupAct}
+use Rattle.zone_threads.specs.declared.calls.GroupAct.TheVariants as act
 use Rattle.zone_threads.specs.declared.calls.GroupPages.{GroupPages}
 use Rattle.zone_threads.specs.declared.calls.GroupPages.TheVariants as of_group
 use Rattle.zone_threads.specs.declared.served.Missed.{Missed}
@@ -41,19 +42,21 @@ use Rattle.zone_threads.specs.declared.calls.ReadCall.{ReadCall}
 use Rattle.zone_threads.specs.declared.calls.ReadAnswer.{ReadAnswer}
 use Rattle.zone_threads.specs.declared.calls.ReadAnswer.TheVariants as read
 
--- a block was allocated for the group of this number, by its path
-pub record ServesBlock (frames : KnownTable) (group order : ℕ) (outcome : Outcome) (before after : LockedState)
-    : Type 0 where
-  pub path : Bor (List ℕ)
-  pub path_is : path_of before.locked.machine.ledger.groups group ≡ Some path.now
-  pub serves : ServesOutcome frames (cmd.Alloc path order) outcome before after
+-- no limit is no amount to reclaim, and the root has no file
+abbrev pub refused_amount : (group : ℕ) → Outcome
+refused_amount zero = Refused NoFile
+refused_amount (suc less) = Refused BadLimit
 
--- a unit was allocated for the group of this number, by its path, and noted as dirty
-pub record ServesDirtyUnit (frames : KnownTable) (group order : ℕ) (outcome : Outcome) (before after : LockedState)
-    : Type 0 where
-  pub path : Bor (List ℕ)
-  pub path_is : path_of before.locked.machine.ledger.groups group ≡ Some path.now
-  pub serves : ServesDirtyAlloc frames path order outcome before after
+-- what was done for a group: a block was allocated, or a unit that was then noted as dirty, or a setting was made, or no
+-- amount was to be reclaimed, which is refused: then the CPU was settled
+abbrev pub ServesAct : KnownTable → (group : ℕ) → GroupAct → Outcome → (before after : LockedState) → Type 0
+ServesAct frames group (act.Alloc order) outcome before after = IsServed frames (cmd.Alloc group order) outcome before after
+ServesAct frames group (act.AllocDirty order) outcome before after = ServesDirtyAlloc frames group order outcome before after
+ServesAct frames group (act.Write setting) outcome before after = IsServed frames (cmd.Write group setting) outcome before after
+ServesAct frames group (act.Reclaim (Some pages)) outcome before after =
+    IsServed frames (cmd.Write group (Reclaim pages)) outcome before after
+ServesAct frames group (act.Reclaim None) outcome before after =
+    (outcome ≡ refused_amount group) × SettlesCaller frames before after
 
 -- the CPU may have one more pin
 abbrev pub HasPinRoom : CpuInRun → Type 0
@@ -66,17 +69,6 @@ IsBlockOrder order = (1 ≤ order) × (order ≤ 10)
 -- a block of this order may be allocated and pinned for the CPU
 abbrev pub MayPinBlock : (order : ℕ) → CpuInRun → Type 0
 MayPinBlock order cpu = HasPinRoom cpu × IsBlockOrder order
-
--- a limit was written to a file of the group of this number, by its path and as a read of the file shows it
-pub record ServesPages (frames : KnownTable) (group : ℕ) (file : File) (pages : Option ℕ) (outcome : Outcome)
-    (before after : LockedState) : Type 0 where
-  pub path : Bor (List ℕ)
-  pub name : Bor (List ℕ)
-  pub value : Bor (List ℕ)
-  pub path_is : path_of before.locked.machine.ledger.groups group ≡ Some path.now
-  pub name_is : name.now ≡ name_of_file file
-  pub value_is : value.now ≡ limit_text pages
-  pub serves : ServesOutcome frames (cmd.Write path name value) outcome before after
 
 -- the fast allocation got no frame
 abbrev pub GetsNoFrame : Fast → Type 0
@@ -125,12 +117,12 @@ IsMissedFor frames frame Zero from to = FindsReferences frames frame 0 Zero from
 IsMissedFor frames frame Full from to = FindsReferences frames frame most_references Full from to
 IsMissedFor frames frame (Raced found) from to = RacesAt (zone_of_boot frames) (own_past from.past) frame found
 
--- A block that begins at this frame was allocated for the group of this number, by its path. Right after it, under the
--- same lock, `Asks` leads from the CPU as the allocation left it to the CPU as it is now.
+-- A block that begins at this frame was allocated for the group of this number. Right after it, under the same
+-- lock, `Asks` leads from the CPU as the allocation left it to the CPU as it is now.
 pub record AllocatesThen (frames : KnownTable) (group order frame : ℕ) (Asks : (from to : CpuInRun) → Type 0)
     (before after : LockedState) : Type 0 where
   pub between : LockedState
-  pub allocates : ServesBlock frames group order (Frame frame) before between
+  pub allocates : IsServed frames (cmd.Alloc group order) (Frame frame) before between
   pub lock_kept : after.locked ≡ between.locked
   pub asks : Asks between.cpu after.cpu
 
@@ -139,7 +131,7 @@ pub record AllocatesThen (frames : KnownTable) (group order frame : ℕ) (Asks :
 abbrev pub ServesPinned : KnownTable → (group order : ℕ) → Outcome → (before after : LockedState) → Type 0
 ServesPinned frames group order (Frame frame) before after =
     AllocatesThen frames group order frame (Pins frames frame Held) before after
-ServesPinned frames group order refusal before after = ServesBlock frames group order refusal before after
+ServesPinned frames group order refusal before after = IsServed frames (cmd.Alloc group order) refusal before after
 
 -- a block was allocated, no pin of it was had, for this cause, and it was released again
 pub record GivesUpBlock (frames : KnownTable) (group order : ℕ) (before after : LockedState) : Type 0 where
@@ -148,7 +140,7 @@ pub record GivesUpBlock (frames : KnownTable) (group order : ℕ) (before after 
   pub outcome : Outcome
   pub allocates : AllocatesThen frames group order frame (MissesPin frames frame) before missed
   pub cause : IsMissedFor frames frame allocates.asks.got allocates.between.cpu missed.cpu
-  pub releases : ServesOutcome frames (cmd.Release frame) outcome missed after
+  pub releases : IsServed frames (cmd.Release frame) outcome missed after
 
 -- the CPU put a pin of the frame with this answer, and its past grew by this step
 pub record Unpins (frame : ℕ) (put : Put) (from to : CpuInRun) : Type 0 where
@@ -261,44 +253,34 @@ MissesGroup frames group from to =
 -- visit (`IsServed.run`), and by no others of its own. Each visit finds the sizes of the zone's boot. Whether the zone has
 -- the frame is looked at first: before the lock is tried, and before the CPU's pins.
 abbrev pub Calls : KnownTable → Call → (from to : KnownHome) → CallAnswer → Type 0
-Calls frames (call.Visit cmd) from to answer.Busy = IsOfZone frames cmd × (to ≡ from)
-Calls frames (call.Visit cmd) from to answer.NoFrame = (¬ IsOfZone frames cmd) × (to ≡ from)
-Calls frames (call.Visit cmd) from to (answer.Served outcome) =
-    OnCpu (IsVisited frames from.sizes (ServesOutcome frames cmd outcome)) from to
+Calls frames (call.Visit asked) from to answer.Busy = IsOfZone frames asked × (to ≡ from)
+Calls frames (call.Visit asked) from to answer.NoFrame = (¬ IsOfZone frames asked) × (to ≡ from)
+Calls frames (call.Visit asked) from to (answer.Served outcome) =
+    OnCpu (IsVisited frames from.sizes (ServesText frames asked outcome)) from to
 Calls frames (call.AllocFrame group) from to answer.Busy =
     (group < most_groups) × OnCpu (MissesFast group) from to
 Calls frames (call.AllocFrame group) from to answer.NoGroup = MissesGroup frames group from to
 Calls frames (call.AllocFrame group) from to (answer.Taken frame) =
     OnCpu (AllocsFast group (Got frame)) from to
 Calls frames (call.AllocFrame group) from to (answer.Served outcome) =
-    OnCpu (Then (MissesFast group) (IsVisited frames from.sizes (ServesFrameOutcome frames group outcome)))
+    OnCpu (Then (MissesFast group) (IsVisited frames from.sizes (ServesAct frames group (act.Alloc 0) outcome)))
     from to
-Calls frames (call.AllocBlock group order) from to answer.Busy = to ≡ from
-Calls frames (call.AllocBlock group order) from to answer.NoGroup =
+Calls frames (call.ForGroup group asked) from to answer.Busy = to ≡ from
+Calls frames (call.ForGroup group asked) from to answer.NoGroup =
     OnCpu (NoGroupBehindLock frames group) from to
-Calls frames (call.AllocBlock group order) from to (answer.Served outcome) =
-    OnCpu (IsVisited frames from.sizes (ServesBlock frames group order outcome)) from to
-Calls frames (call.AllocDirty group order) from to answer.Busy = to ≡ from
-Calls frames (call.AllocDirty group order) from to answer.NoGroup =
-    OnCpu (NoGroupBehindLock frames group) from to
-Calls frames (call.AllocDirty group order) from to (answer.Served outcome) =
-    OnCpu (IsVisited frames from.sizes (ServesDirtyUnit frames group order outcome)) from to
+Calls frames (call.ForGroup group asked) from to (answer.Served outcome) =
+    OnCpu (IsVisited frames from.sizes (ServesAct frames group asked outcome)) from to
 Calls frames (call.AllocPinned group order) from to returned =
     OnCpu (CallsAllocPinned frames from.sizes group order returned) from to
 Calls frames (call.ReadPages group which) from to answer.Busy = to ≡ from
 Calls frames (call.ReadPages group which) from to said = OnCpu (ReadsPages frames group which said) from to
-Calls frames (call.WritePages group file pages) from to answer.Busy = to ≡ from
-Calls frames (call.WritePages group file pages) from to answer.NoGroup =
-    OnCpu (NoGroupBehindLock frames group) from to
-Calls frames (call.WritePages group file pages) from to (answer.Served outcome) =
-    OnCpu (IsVisited frames from.sizes (ServesPages frames group file pages outcome)) from to
 Calls frames (call.Release frame) from to answer.Busy =
     (frame < frames.frames) × OnCpu (MissesDrop frame) from to
 Calls frames (call.Release frame) from to answer.NoFrame = (frames.frames ≤ frame) × (to ≡ from)
 Calls frames (call.Release frame) from to answer.Listed = OnCpu (DropsFast frame Listed) from to
 Calls frames (call.Release frame) from to (answer.Served outcome) =
     OnCpu (Then (MissesDrop frame)
-    (IsVisited frames from.sizes (ServesOutcome frames (cmd.Release frame) outcome))) from to
+    (IsVisited frames from.sizes (ServesText frames (command.Release frame) outcome))) from to
 Calls frames (call.Get frame) from to returned = OnCpu (CallsGet frames frame returned) from to
 Calls frames (call.Put frame) from to returned = OnCpu (CallsPut frames frame returned) from to
 Calls frames call.Settle from to answer.Busy = to ≡ from
@@ -311,9 +293,9 @@ abbrev pub IsReadUnderLock : KnownTable → (sizes : Config) → ReadCall → (f
     → ReadAnswer → Type 0
 IsReadUnderLock frames sizes asked from to read.Busy = ⊥
 IsReadUnderLock frames sizes asked from to (read.Text text) =
-    IsVisited frames sizes (IsServed frames (cmd.Read asked.path asked.file) (reply.Text text)) from to
+    IsVisited frames sizes (RepliesTo frames (command.Read asked.path asked.file) (reply.Text text)) from to
 IsReadUnderLock frames sizes asked from to (read.Refused fault) =
-    IsVisited frames sizes (IsServed frames (cmd.Read asked.path asked.file) (reply.Refused fault)) from to
+    IsVisited frames sizes (RepliesTo frames (command.Read asked.path asked.file) (reply.Refused fault)) from to
 
 -- what a read of a file does, by its answer
 abbrev pub AnswersRead : KnownTable → ReadCall → (from to : KnownHome) → ReadAnswer → Type 0

@@ -4,65 +4,49 @@ ghost use Rattle.std.specs.Prelude.{IsSome};
 ghost use Rattle.zone_threads.specs.Calling.{Calls};
 
 use crate::home::Home;
-use control_files::file::File;
 use control_files::limit::Limit;
 use control_files::text::ArrayText;
 use cpu_part::BootName;
 use frame_word::{Frame, Get, Put};
 use group_tree::fault::Fault;
-use mem_system::{LockedCommand, Outcome};
+use mem_system::{Outcome, Setting, TextCommand};
 
 /// What a thread asks for its CPU.
 #[derive(Clone, Copy, PartialEq, Eq)]
 pub enum Call<'a> {
     /// Serves this command under the lock.
-    Visit(LockedCommand<'a>),
+    Visit(TextCommand<'a>),
     /// Takes a frame, charged to the group of this number: of the CPU's list and stock, or else under the lock.
-    AllocFrame {
-        group: u32,
-    },
-    /// Takes a block of 2^order frames, charged to the group of this number, under the lock.
-    AllocBlock {
-        group: u32,
-        order: u32,
-    },
-    /// Takes a dirty unit of 2^order frames, charged to the group of this number, under the lock: it is kept and dirty
-    /// before another CPU is served.
-    AllocDirty {
-        group: u32,
-        order: u32,
-    },
+    AllocFrame { group: u32 },
+    /// Does this for the group of this number, under the lock.
+    ForGroup { group: u32, act: GroupAct },
     /// Takes a block of 2^order frames, of order 1 to 10, charged to the group of this number, and pins it, under the
     /// lock: no other CPU is served in between.
-    AllocPinned {
-        group: u32,
-        order: u32,
-    },
+    AllocPinned { group: u32, order: u32 },
     /// Reads a number of pages of the group of this number, under the lock. The CPU isn't settled.
-    ReadPages {
-        group: u32,
-        which: GroupPages,
-    },
-    /// Writes so many pages, or no limit, to this file of the group of this number, under the lock.
-    WritePages {
-        group: u32,
-        file: File,
-        pages: Limit,
-    },
+    ReadPages { group: u32, which: GroupPages },
     /// Releases the unit that this frame heads: if it is a fresh frame of the CPU, to its list, or else under the lock.
-    Release {
-        frame: u32,
-    },
+    Release { frame: u32 },
     /// Pins this frame, without the lock.
-    Get {
-        frame: u32,
-    },
+    Get { frame: u32 },
     /// Puts a pin of this frame, without the lock.
-    Put {
-        frame: u32,
-    },
+    Put { frame: u32 },
     /// Settles the CPU, under the lock.
     Settle,
+}
+
+/// What is done for a group under the lock.
+#[derive(Clone, Copy, PartialEq, Eq)]
+pub enum GroupAct {
+    /// Takes a block of this order, charged to the group.
+    Alloc(u32),
+    /// Takes a dirty unit of this order, charged to the group: it is kept and dirty before another CPU is served.
+    AllocDirty(u32),
+    /// Makes this setting of the group.
+    Write(Setting),
+    /// Reclaims so many pages from the group and those below it. None, for no limit, is no amount, and is refused as the
+    /// text `max` of memory.reclaim is.
+    Reclaim(Limit),
 }
 
 /// A number of pages that a group has.
@@ -133,13 +117,11 @@ impl<N: BootName> Home<N> {
         ensures { Calls N.table call.now self.old self.new result }
     {
         match *call {
-            Call::Visit(cmd) => self.visit(&cmd),
+            Call::Visit(command) => self.visit(&command),
             Call::AllocFrame { group } => self.alloc_frame(group),
-            Call::AllocBlock { group, order } => self.alloc_block(group, order),
-            Call::AllocDirty { group, order } => self.alloc_dirty(group, order),
+            Call::ForGroup { group, act } => self.act(group, act),
             Call::AllocPinned { group, order } => self.alloc_pinned(group, order),
             Call::ReadPages { group, which } => self.read_pages(group, which),
-            Call::WritePages { group, file, pages } => self.write_pages(group, file, pages),
             Call::Release { frame } => self.release(frame),
             Call::Get { frame } => self.get(frame),
             Call::Put { frame } => self.put(frame),

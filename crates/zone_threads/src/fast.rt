@@ -6,13 +6,13 @@ ghost use Rattle.cpu_part.specs.declared.answers.Fast.TheVariants.{Got};
 ghost use Rattle.zone_threads.specs.Calling.{AllocsFast, Calls, CallsGet, CallsPut, DropsFast, MissesDrop, MissesFast};
 ghost use Rattle.zone_threads.specs.declared.calls.Call.TheVariants as call;
 
-use crate::calls::CallAnswer;
+use crate::calls::{CallAnswer, GroupAct};
 use crate::home::Home;
 use crate::served::Missed;
 use cpu_part::{BootName, Dropped, Fast, Tables};
 use frame_word::Frame;
 use group_tree::fault::Fault;
-use mem_system::{Cpu, LockedCommand};
+use mem_system::{Cpu, TextCommand};
 
 impl<N: BootName> Home<N> {
     /// Takes a frame of the CPU's list, paid from its stock; else allocates one under the lock.
@@ -31,7 +31,7 @@ impl<N: BootName> Home<N> {
         if let Some(frame) = take_listed(&zone.tables, cpu, group) {
             return CallAnswer::Taken(frame);
         }
-        match self.serve_frame(group) {
+        match self.serve_act(group, GroupAct::Alloc(0)) {
             Ok(outcome) => CallAnswer::Served(outcome),
             Err(Missed::Busy) => CallAnswer::Busy,
             Err(Missed::NoGroup) => CallAnswer::NoGroup,
@@ -54,7 +54,7 @@ impl<N: BootName> Home<N> {
         if relist(&zone.tables, cpu, frame) {
             return CallAnswer::Listed;
         }
-        match self.serve(&LockedCommand::Release { frame: number }) {
+        match self.serve(&TextCommand::Release { frame: number }) {
             Some(outcome) => CallAnswer::Served(outcome),
             None => CallAnswer::Busy,
         }

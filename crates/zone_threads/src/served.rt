@@ -3,16 +3,15 @@
 ghost use Rattle.std.specs.Prelude.{◌≡◌, ◌<◌, IfNone, IfSome, IsTrue, MatchBool};
 ghost use Rattle.frame_word.specs.declared.answers.Get.TheVariants.{Held};
 ghost use Rattle.group_tree.specs.Groups.{has_group};
-ghost use Rattle.mem_system.specs.{IsOfZone, SettlesCaller, IsVisited, ServesFrameOutcome, ServesOutcome};
-ghost use Rattle.zone_threads.specs.Calling.{NoGroupBehindLock, IsMissingIn, IsReadUnderLock, ServesBlock};
+ghost use Rattle.mem_system.specs.{IsOfZone, SettlesCaller, IsVisited, ServesText, locked_state};
+ghost use Rattle.zone_threads.specs.Calling.{NoGroupBehindLock, IsMissingIn, IsReadUnderLock, ServesAct};
 ghost use Rattle.zone_threads.specs.Calling.{AllocatesPinned, HasPinRoom, MayPinBlock, MissesPin, Pins};
-ghost use Rattle.zone_threads.specs.Calling.{ReadsPages, SaysPages, ServesDirtyUnit, ServesPages};
+ghost use Rattle.zone_threads.specs.Calling.{ReadsPages, SaysPages};
 ghost use Rattle.zone_threads.specs.Homes.{KeepsParked};
 
 use crate::behind::Behind;
-use crate::calls::{CallAnswer, GroupPages, ReadAnswer, ReadCall};
-use control_files::file::{File, file_text};
-use control_files::limit::{Limit, write_limit};
+use crate::calls::{CallAnswer, GroupAct, GroupPages, ReadAnswer, ReadCall};
+use control_files::file::file_text;
 use control_files::stat::stat_text;
 use cpu_part::{BootName, Tables};
 use frame_word::Get;
@@ -20,8 +19,8 @@ use group_charge::charges::Charges;
 use group_tree::fault::Fault;
 use group_tree::group::GroupId;
 use mem_system::{
-    Cpu, LockedCommand, Outcome, serve_dirty_alloc, serve_frame_outcome, serve_outcome,
-    serve_settle,
+    Cpu, Locked, LockedCommand, Outcome, Setting, TextCommand, serve_dirty_alloc, serve_outcome,
+    serve_settle, serve_text,
 };
 
 /// Why nothing was allocated under the lock.
@@ -34,35 +33,36 @@ pub enum Missed {
 }
 
 impl<N: BootName> Behind<N> {
-    /// Serves a command of a CPU, as `mem_system::serve_outcome` does.
+    /// Serves a command of a CPU, as `mem_system::serve_text` does.
     #[inline(always)]
     pub fn serve(
         &mut self,
         tables: &Tables<N>,
         cpu: &mut Cpu<N>,
-        cmd: &LockedCommand<'_>,
+        command: &TextCommand<'_>,
     ) -> Outcome
-        requires { IsOfZone N.table cmd.now }
-        ensures served { IsVisited N.table self.old.locked.sizes (ServesOutcome N.table cmd.now result)
+        requires { IsOfZone N.table command.now }
+        ensures served { IsVisited N.table self.old.locked.sizes (ServesText N.table command.now result)
             cpu.old cpu.new }
         ensures parked { KeepsParked self.old self.new }
     {
         self.locked.prove_quiet();
-        let outcome = serve_outcome(&mut self.locked, tables, cpu, cmd);
+        let outcome = serve_text(&mut self.locked, tables, cpu, command);
         self.locked.prove_quiet();
         outcome
     }
 
-    /// Allocates a frame for the group of this number; `None` if there is none.
+    /// Does this for the group of this number; `None` if there is none.
     #[inline(always)]
-    pub fn alloc_frame(
+    pub fn serve_act(
         &mut self,
         tables: &Tables<N>,
         cpu: &mut Cpu<N>,
         group: u32,
+        act: GroupAct,
     ) -> Option<Outcome>
         ensures served { IfSome result (λ outcome.
-            IsVisited N.table self.old.locked.sizes (ServesFrameOutcome N.table group outcome)
+            IsVisited N.table self.old.locked.sizes (ServesAct N.table group act outcome)
             cpu.old cpu.new) }
         ensures none { IfNone result (NoGroupBehindLock N.table group cpu.old cpu.new) }
         ensures parked { KeepsParked self.old self.new }
@@ -73,65 +73,7 @@ impl<N: BootName> Behind<N> {
             self.locked.prove_quiet();
             return None;
         };
-        let outcome = serve_frame_outcome(&mut self.locked, tables, cpu, group);
-        self.locked.prove_quiet();
-        Some(outcome)
-    }
-
-    /// Allocates a block for the group of this number; `None` if there is none.
-    pub fn alloc_block(
-        &mut self,
-        tables: &Tables<N>,
-        cpu: &mut Cpu<N>,
-        group: u32,
-        order: u32,
-    ) -> Option<Outcome>
-        ensures served { IfSome result (λ outcome.
-            IsVisited N.table self.old.locked.sizes (ServesBlock N.table group order outcome)
-            cpu.old cpu.new) }
-        ensures none { IfNone result (NoGroupBehindLock N.table group cpu.old cpu.new) }
-        ensures parked { KeepsParked self.old self.new }
-    {
-        self.locked.prove_quiet();
-        let Some(group) = find_group(self.locked.charges(), group) else {
-            self.locked.meet(tables, cpu);
-            self.locked.prove_quiet();
-            return None;
-        };
-        let path = *self.locked.charges().tree().path_of(group);
-        let path = path.as_bytes();
-        let outcome = serve_outcome(
-            &mut self.locked,
-            tables,
-            cpu,
-            &LockedCommand::Alloc { path, order },
-        );
-        self.locked.prove_quiet();
-        Some(outcome)
-    }
-
-    /// Allocates a dirty unit for the group of this number; `None` if there is none.
-    pub fn alloc_dirty(
-        &mut self,
-        tables: &Tables<N>,
-        cpu: &mut Cpu<N>,
-        group: u32,
-        order: u32,
-    ) -> Option<Outcome>
-        ensures served { IfSome result (λ outcome.
-            IsVisited N.table self.old.locked.sizes (ServesDirtyUnit N.table group order outcome)
-            cpu.old cpu.new) }
-        ensures none { IfNone result (NoGroupBehindLock N.table group cpu.old cpu.new) }
-        ensures parked { KeepsParked self.old self.new }
-    {
-        self.locked.prove_quiet();
-        let Some(group) = find_group(self.locked.charges(), group) else {
-            self.locked.meet(tables, cpu);
-            self.locked.prove_quiet();
-            return None;
-        };
-        let path = *self.locked.charges().tree().path_of(group);
-        let outcome = serve_dirty_alloc(&mut self.locked, tables, cpu, path.as_bytes(), order);
+        let outcome = serve_for(&mut self.locked, tables, cpu, group, act);
         self.locked.prove_quiet();
         Some(outcome)
     }
@@ -155,9 +97,7 @@ impl<N: BootName> Behind<N> {
             self.locked.prove_quiet();
             return CallAnswer::NoGroup;
         };
-        let path = *self.locked.charges().tree().path_of(group);
-        let path = path.as_bytes();
-        let alloc = LockedCommand::Alloc { path, order };
+        let alloc = LockedCommand::Alloc { group, order };
         let outcome = serve_outcome(&mut self.locked, tables, cpu, &alloc);
         self.locked.prove_quiet();
         let Outcome::Frame(frame) = outcome else {
@@ -191,38 +131,6 @@ impl<N: BootName> Behind<N> {
         answer
     }
 
-    /// Writes so many pages, or no limit, to this file of the group of this number; `None` if there is none.
-    pub fn write_pages(
-        &mut self,
-        tables: &Tables<N>,
-        cpu: &mut Cpu<N>,
-        group: u32,
-        file: File,
-        pages: Limit,
-    ) -> Option<Outcome>
-        ensures served { IfSome result (λ outcome.
-            IsVisited N.table self.old.locked.sizes (ServesPages N.table group file pages outcome)
-            cpu.old cpu.new) }
-        ensures none { IfNone result (NoGroupBehindLock N.table group cpu.old cpu.new) }
-        ensures parked { KeepsParked self.old self.new }
-    {
-        self.locked.prove_quiet();
-        let Some(group) = find_group(self.locked.charges(), group) else {
-            self.locked.meet(tables, cpu);
-            self.locked.prove_quiet();
-            return None;
-        };
-        let path = *self.locked.charges().tree().path_of(group);
-        let path = path.as_bytes();
-        let value = write_limit(pages);
-        let value = value.as_bytes();
-        let file = file.name().as_bytes();
-        let cmd = LockedCommand::Write { path, file, value };
-        let outcome = serve_outcome(&mut self.locked, tables, cpu, &cmd);
-        self.locked.prove_quiet();
-        Some(outcome)
-    }
-
     /// Settles a CPU.
     #[inline(always)]
     pub fn settle(&mut self, tables: &Tables<N>, cpu: &mut Cpu<N>)
@@ -241,11 +149,11 @@ impl<N: BootName> Behind<N> {
     {
         let ReadCall { path, file } = *asked;
         self.locked.prove_quiet();
-        let outcome = serve_outcome(
+        let outcome = serve_text(
             &mut self.locked,
             tables,
             cpu,
-            &LockedCommand::Read { path, file },
+            &TextCommand::Read { path, file },
         );
         self.locked.prove_quiet();
         if let Outcome::Refused(fault) = outcome {
@@ -260,6 +168,51 @@ impl<N: BootName> Behind<N> {
         match file_text(self.locked.charges(), group, file) {
             Ok(text) => ReadAnswer::Text(text),
             Err(fault) => ReadAnswer::Refused(fault),
+        }
+    }
+}
+
+// Does this for the group.
+#[inline(always)]
+fn serve_for<N: BootName>(
+    locked: &mut Locked<N>,
+    tables: &Tables<N>,
+    cpu: &mut Cpu<N>,
+    group: GroupId,
+    act: GroupAct,
+) -> Outcome
+    requires { IsTrue (has_group locked.old.machine.ledger.groups group) }
+    ensures served { ServesAct N.table group act result (locked_state locked.old cpu.old)
+        (locked_state locked.new cpu.new) }
+{
+    match act {
+        GroupAct::Alloc(order) => {
+            serve_outcome(locked, tables, cpu, &LockedCommand::Alloc { group, order })
+        }
+        GroupAct::AllocDirty(order) => serve_dirty_alloc(locked, tables, cpu, group, order),
+        GroupAct::Write(setting) => {
+            serve_outcome(
+                locked,
+                tables,
+                cpu,
+                &LockedCommand::Write { group, setting },
+            )
+        }
+        GroupAct::Reclaim(Some(pages)) => {
+            let setting = Setting::Reclaim(u64::from(pages));
+            serve_outcome(
+                locked,
+                tables,
+                cpu,
+                &LockedCommand::Write { group, setting },
+            )
+        }
+        GroupAct::Reclaim(None) => {
+            serve_settle(locked, tables, cpu);
+            if group == GroupId::root() {
+                return Outcome::Refused(Fault::NoFile);
+            }
+            Outcome::Refused(Fault::BadLimit)
         }
     }
 }

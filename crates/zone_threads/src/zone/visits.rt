@@ -1,60 +1,44 @@
 //! The calls that are served under the lock.
 
 ghost use Rattle.std.specs.Prelude.{◌≡◌, ◌↔◌, IfNone, IfSome, IsSome, IsTrue, MatchResult};
-ghost use Rattle.mem_system.specs.{IsOfZone, NamesFrameBelow, IsVisited, ServesFrameOutcome, ServesOutcome};
-ghost use Rattle.zone_threads.specs.Calling.{Calls, IfMissing, AnswersRead, ServesBlock, ServesDirtyUnit};
-ghost use Rattle.zone_threads.specs.Calling.{ServesPages};
+ghost use Rattle.mem_system.specs.{IsOfZone, NamesFrameBelow, IsVisited, ServesText};
+ghost use Rattle.zone_threads.specs.Calling.{Calls, IfMissing, AnswersRead, ServesAct};
 ghost use Rattle.zone_threads.specs.Homes.{OnCpu};
 ghost use Rattle.zone_threads.specs.Shown.{ReadsText};
-ghost use Rattle.zone_threads.specs.declared.calls.Call.TheVariants.{AllocBlock, AllocDirty, AllocPinned, ReadPages};
-ghost use Rattle.zone_threads.specs.declared.calls.Call.TheVariants.{Settle, Visit, WritePages};
+ghost use Rattle.zone_threads.specs.declared.calls.Call.TheVariants.{AllocPinned, ForGroup, ReadPages, Settle, Visit};
 
-use crate::calls::{CallAnswer, GroupPages, ReadAnswer, ReadCall};
+use crate::calls::{CallAnswer, GroupAct, GroupPages, ReadAnswer, ReadCall};
 use crate::home::Home;
 use crate::served::Missed;
 use crate::texts::{TextAnswer, TextCall};
-use control_files::file::File;
-use control_files::limit::Limit;
 use cpu_part::{BootName, MAX_PINS};
 use group_tree::fault::Fault;
-use mem_system::{LockedCommand, Outcome};
+use mem_system::{Outcome, TextCommand};
 use std::alloc::Global;
 use zone_blocks::order::Order;
 
 impl<N: BootName> Home<N> {
     /// Serves a command under the lock.
-    pub fn visit(&mut self, cmd: &LockedCommand<'_>) -> CallAnswer
+    pub fn visit(&mut self, command: &TextCommand<'_>) -> CallAnswer
         requires some { IsSome self.old.cpu }
-        ensures { Calls N.table (Visit cmd.now) self.old self.new result }
+        ensures { Calls N.table (Visit command.now) self.old self.new result }
     {
-        if !is_of_zone(cmd, self.zone.tables.words.frames()) {
+        if !is_of_zone(command, self.zone.tables.words.frames()) {
             return CallAnswer::NoFrame;
         }
-        match self.serve(cmd) {
+        match self.serve(command) {
             Some(outcome) => CallAnswer::Served(outcome),
             None => CallAnswer::Busy,
         }
     }
 
-    /// Allocates a block under the lock.
-    pub fn alloc_block(&mut self, group: u32, order: u32) -> CallAnswer
+    /// Does this for the group of this number under the lock.
+    pub fn act(&mut self, group: u32, act: GroupAct) -> CallAnswer
         requires some { IsSome self.old.cpu }
-        ensures { Calls N.table (AllocBlock group order) self.old self.new result }
+        ensures { Calls N.table (ForGroup group act) self.old self.new result }
     {
-        match self.serve_block(group, order) {
+        match self.serve_act(group, act) {
             Ok(outcome) => CallAnswer::Served(outcome),
-            Err(Missed::Busy) => CallAnswer::Busy,
-            Err(Missed::NoGroup) => CallAnswer::NoGroup,
-        }
-    }
-
-    /// Allocates a dirty unit under the lock.
-    pub fn alloc_dirty(&mut self, group: u32, order: u32) -> CallAnswer
-        requires some { IsSome self.old.cpu }
-        ensures { Calls N.table (AllocDirty group order) self.old self.new result }
-    {
-        match self.serve_dirty(group, order) {
-            Ok(served) => CallAnswer::Served(served),
             Err(Missed::Busy) => CallAnswer::Busy,
             Err(Missed::NoGroup) => CallAnswer::NoGroup,
         }
@@ -99,18 +83,6 @@ impl<N: BootName> Home<N> {
         let answer = behind.read_pages(&zone.tables, cpu, group, which);
         zone.lock.put_back(behind, loan);
         answer
-    }
-
-    /// Writes so many pages, or no limit, to this file of the group of this number under the lock.
-    pub fn write_pages(&mut self, group: u32, file: File, pages: Limit) -> CallAnswer
-        requires some { IsSome self.old.cpu }
-        ensures { Calls N.table (WritePages group file pages) self.old self.new result }
-    {
-        match self.serve_pages(group, file, pages) {
-            Ok(written) => CallAnswer::Served(written),
-            Err(Missed::Busy) => CallAnswer::Busy,
-            Err(Missed::NoGroup) => CallAnswer::NoGroup,
-        }
     }
 
     /// Settles the CPU under the lock.
@@ -164,11 +136,11 @@ impl<N: BootName> Home<N> {
     }
 
     // Serves a command under the lock; `None` if another thread has it.
-    pub(crate) fn serve(&mut self, cmd: &LockedCommand<'_>) -> Option<Outcome>
+    pub(crate) fn serve(&mut self, command: &TextCommand<'_>) -> Option<Outcome>
         requires some { IsSome self.old.cpu }
-        requires of_zone { IsOfZone N.table cmd.now }
+        requires of_zone { IsOfZone N.table command.now }
         ensures served { IfSome result (λ outcome.
-            OnCpu (IsVisited N.table self.old.sizes (ServesOutcome N.table cmd.now outcome))
+            OnCpu (IsVisited N.table self.old.sizes (ServesText N.table command.now outcome))
             self.old self.new) }
         ensures busy { IfNone result (self.new ≡ self.old) }
     {
@@ -177,16 +149,17 @@ impl<N: BootName> Home<N> {
             unreachable!()
         };
         let (mut behind, loan) = zone.take()?;
-        let outcome = behind.serve(&zone.tables, cpu, cmd);
+        let outcome = behind.serve(&zone.tables, cpu, command);
         zone.lock.put_back(behind, loan);
         Some(outcome)
     }
 
-    // Allocates a frame under the lock.
-    pub(crate) fn serve_frame(&mut self, group: u32) -> Result<Outcome, Missed>
+    // Does this for the group of this number under the lock.
+    #[inline(always)]
+    pub(crate) fn serve_act(&mut self, group: u32, act: GroupAct) -> Result<Outcome, Missed>
         requires some { IsSome self.old.cpu }
         ensures { MatchResult result
-            (λ outcome. OnCpu (IsVisited N.table self.old.sizes (ServesFrameOutcome N.table group outcome))
+            (λ outcome. OnCpu (IsVisited N.table self.old.sizes (ServesAct N.table group act outcome))
             self.old self.new)
             (λ missed. IfMissing N.table group missed self.old self.new) }
     {
@@ -197,94 +170,25 @@ impl<N: BootName> Home<N> {
         let Some((mut behind, loan)) = zone.take() else {
             return Err(Missed::Busy);
         };
-        let served = behind.alloc_frame(&zone.tables, cpu, group);
-        zone.lock.put_back(behind, loan);
-        match served {
-            Some(outcome) => Ok(outcome),
-            None => Err(Missed::NoGroup),
-        }
-    }
-
-    // Allocates a block under the lock.
-    fn serve_block(&mut self, group: u32, order: u32) -> Result<Outcome, Missed>
-        requires some { IsSome self.old.cpu }
-        ensures { MatchResult result
-            (λ outcome. OnCpu (IsVisited N.table self.old.sizes (ServesBlock N.table group order outcome))
-            self.old self.new)
-            (λ missed. IfMissing N.table group missed self.old self.new) }
-    {
-        let zone = &*self.zone;
-        let Some(cpu) = &mut self.cpu else {
-            unreachable!()
-        };
-        let Some((mut behind, loan)) = zone.take() else {
-            return Err(Missed::Busy);
-        };
-        let served = behind.alloc_block(&zone.tables, cpu, group, order);
+        let served = behind.serve_act(&zone.tables, cpu, group, act);
         zone.lock.put_back(behind, loan);
         let Some(outcome) = served else {
             return Err(Missed::NoGroup);
         };
         Ok(outcome)
     }
-
-    // Allocates a dirty unit under the lock.
-    fn serve_dirty(&mut self, group: u32, order: u32) -> Result<Outcome, Missed>
-        requires some { IsSome self.old.cpu }
-        ensures { MatchResult result
-            (λ outcome. OnCpu (IsVisited N.table self.old.sizes (ServesDirtyUnit N.table group order outcome))
-            self.old self.new)
-            (λ missed. IfMissing N.table group missed self.old self.new) }
-    {
-        let zone = &*self.zone;
-        let Some(cpu) = &mut self.cpu else {
-            unreachable!()
-        };
-        let Some((mut behind, loan)) = zone.take() else {
-            return Err(Missed::Busy);
-        };
-        let served = behind.alloc_dirty(&zone.tables, cpu, group, order);
-        zone.lock.put_back(behind, loan);
-        match served {
-            None => Err(Missed::NoGroup),
-            Some(outcome) => Ok(outcome),
-        }
-    }
-
-    // Writes pages to a file under the lock.
-    fn serve_pages(&mut self, group: u32, file: File, pages: Limit) -> Result<Outcome, Missed>
-        requires some { IsSome self.old.cpu }
-        ensures { MatchResult result
-            (λ outcome. OnCpu (IsVisited N.table self.old.sizes (ServesPages N.table group file pages outcome))
-            self.old self.new)
-            (λ missed. IfMissing N.table group missed self.old self.new) }
-    {
-        let zone = &*self.zone;
-        let Some(cpu) = &mut self.cpu else {
-            unreachable!()
-        };
-        let Some((mut behind, loan)) = zone.take() else {
-            return Err(Missed::Busy);
-        };
-        let served = behind.write_pages(&zone.tables, cpu, group, file, pages);
-        zone.lock.put_back(behind, loan);
-        let Some(written) = served else {
-            return Err(Missed::NoGroup);
-        };
-        Ok(written)
-    }
 }
 
 // Whether each frame that the command names is one of so many.
-fn is_of_zone(cmd: &LockedCommand<'_>, frames: u32) -> bool
-    ensures { IsTrue result ↔ NamesFrameBelow frames cmd.now }
+fn is_of_zone(command: &TextCommand<'_>, frames: u32) -> bool
+    ensures { IsTrue result ↔ NamesFrameBelow frames command.now }
 {
-    match *cmd {
-        LockedCommand::Owner { frame } => frame < frames,
-        LockedCommand::Touch { frame } => frame < frames,
-        LockedCommand::Dirty { frame } => frame < frames,
-        LockedCommand::Clean { frame } => frame < frames,
-        LockedCommand::Release { frame } => frame < frames,
+    match *command {
+        TextCommand::Owner { frame } => frame < frames,
+        TextCommand::Touch { frame } => frame < frames,
+        TextCommand::Dirty { frame } => frame < frames,
+        TextCommand::Clean { frame } => frame < frames,
+        TextCommand::Release { frame } => frame < frames,
         _ => true,
     }
 }

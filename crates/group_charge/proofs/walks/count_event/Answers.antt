@@ -1,5 +1,5 @@
 use Rattle.std.proofs.Common.{◌≡◌, ◌<◌, true, length, get_or, set, sym, ap, ◌∙◌, subst, arith, refl}
-use Rattle.group_tree.specs.Events.{EventCounts, with_one_more}
+use Rattle.group_tree.specs.{EventCounts, most_groups, with_one_more}
 use Rattle.group_charge.specs.Charges.{Account, empty_account}
 use Rattle.group_charge.specs.Kept.{account_by, with_event}
 use Rattle.group_charge.proofs.KeptLemmas.{read_at}
@@ -19,7 +19,7 @@ loop-ancestor-preserved c =
     let m = c.in-Some.ancestor in
     let t = walking_turn Account (empty_account 0) groups
     (λ _. true) c.args.group (with_event c.args.key) old m c.loop-ancestor.ancestor-iterator c.next.new.self now c.requires.legal c.loop-ancestor.invariant c.in-Some.ensures.steps in
-    let size : length now ≡ 64 = t.size ∙ c.requires.size in
+    let size : length now ≡ most_groups = t.size ∙ c.requires.size in
     let within : m < length now = omega (arith, size, c.number-at.ensures.below, c.number-at.ensures.value) in
     let also : c.number-at.result < length now = omega (arith, size, c.number-at.ensures.below) in
     let read : (d : Account) → get_or now c.number-at.result d ≡ account_by old m = λ d.

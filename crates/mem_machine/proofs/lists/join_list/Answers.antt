@@ -9,4 +9,4 @@ returns c =
     c.requires.lists.groups c.requires.lists.stand _ _ c.index.ensures _ _
     (record { stands = a.linked; owner = a.owner; inactive = a.inactive; active = a.active; changes = a.others; moves = a.moves; joined = a.joined })
     c.others_stay_linked.ensures c.one_of_all_changes.ensures in
-    record { joins = all.joins; lists = record { groups = all.groups; stand = all.stand }; frames = search rules }
+    record { joins = all.joins; lists = record { groups = all.groups; stand = all.stand }; frames = search rules; used = a.used; dirt = a.dirt; clean = search rules }

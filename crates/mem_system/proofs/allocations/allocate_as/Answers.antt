@@ -27,9 +27,9 @@ returns-else-exponent-eq0-clause-there g c =
 pub returns-then-exponent-eq0-clause-fresh : goal.returns-then-exponent-eq0-clause-fresh
 returns-then-exponent-eq0-clause-fresh g c =
     let single : c.args.order ≡ 0 = search rules in
-    frame_fresh c.alloc_frame.new.machine.ledger c.args.order c.alloc_frame.result c.alloc_frame.new.cpu.fresh single c.alloc_frame.ensures.fresh
+    frame_fresh c.args.order c.alloc_frame.result c.alloc_frame.new.cpu.fresh single c.alloc_frame.ensures.fresh
 
 pub returns-else-exponent-eq0-clause-fresh : goal.returns-else-exponent-eq0-clause-fresh
 returns-else-exponent-eq0-clause-fresh g c =
     let block : c.args.order ≢ 0 = search rules in
-    block_fresh c.alloc_block.new.machine.ledger c.args.order c.alloc_block.result c.alloc_block.new.cpu.fresh block c.alloc_block.ensures.fresh
+    block_fresh c.args.order c.alloc_block.result c.alloc_block.new.cpu.fresh block c.alloc_block.ensures.fresh

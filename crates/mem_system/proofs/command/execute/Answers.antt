@@ -3,7 +3,7 @@ use Rattle.std.proofs.Common.{◌≡◌, ◌∙◌, [], ap, arith, length, refl,
 use Rattle.zone_blocks.specs.declared.config.Config.{Config}
 use Rattle.cpu_part.specs.Cpus.{KnownCpuLists}
 use Rattle.mem_machine.proofs.Followed.{makes_none}
-use Rattle.mem_system.specs.{ListAndFreshStayWithin, NamesFrameBelow}
+use Rattle.mem_system.specs.{ListAndFreshStayWithin, NamesWhatExists}
 use Rattle.mem_machine.proofs.Made.{visit_same}
 use Rattle.mem_system.proofs.Keeping.{keeps_visit}
 use Rattle.mem_system.proofs.command.execute.Goals as goal
@@ -15,20 +15,34 @@ none_fresh sizes cpu none = λ within. let no_more = ap length none in omega (ar
 pub make_group-requires : goal.make_group-requires
 make_group-requires g c = record { held = c.requires.visit.visit.held }
 
-pub write_file-requires : goal.write_file-requires
-write_file-requires g c = record { held = c.requires.visit.visit.held }
+pub write_setting-requires : goal.write_setting-requires
+write_setting-requires g c = record {
+  there = subst (NamesWhatExists g.N.BootName.table c.args.machine.now.ledger.groups) c.in-Write.is c.requires.names;
+  held = c.requires.visit.visit.held;
+}
 
 pub remove_group-requires : goal.remove_group-requires
-remove_group-requires g c = record { held = c.requires.visit.visit.held }
+remove_group-requires g c = record {
+  there = subst (NamesWhatExists g.N.BootName.table c.args.machine.now.ledger.groups) c.in-Rmdir.is c.requires.names;
+  held = c.requires.visit.visit.held;
+}
+
+pub read_file-requires : goal.read_file-requires
+read_file-requires g c =
+    let names = subst (NamesWhatExists g.N.BootName.table c.args.machine.now.ledger.groups) c.in-Read.is c.requires.names in
+    record { there = names.0; below_root = names.1 }
+
+pub allocate-requires-clause-there : goal.allocate-requires-clause-there
+allocate-requires-clause-there g c = subst (NamesWhatExists g.N.BootName.table c.args.machine.now.ledger.groups) c.in-Alloc.is c.requires.names
 
 pub report_place-requires : goal.report_place-requires
-report_place-requires g c = subst (NamesFrameBelow g.N.BootName.table.frames) c.in-Owner.is c.requires.zone
+report_place-requires g c = subst (NamesWhatExists g.N.BootName.table c.args.machine.now.ledger.groups) c.in-Owner.is c.requires.names
 
 pub touch_frame-requires : goal.touch_frame-requires
-touch_frame-requires g c = subst (NamesFrameBelow g.N.BootName.table.frames) c.in-Touch.is c.requires.zone
+touch_frame-requires g c = subst (NamesWhatExists g.N.BootName.table c.args.machine.now.ledger.groups) c.in-Touch.is c.requires.names
 
 pub note_dirt-requires : goal.note_dirt-requires
-note_dirt-requires g c = subst (NamesFrameBelow g.N.BootName.table.frames) c.in-Dirty.is c.requires.zone
+note_dirt-requires g c = subst (NamesWhatExists g.N.BootName.table c.args.machine.now.ledger.groups) c.in-Dirty.is c.requires.names
 
 pub returns-in-Mkdir : goal.returns-in-Mkdir
 returns-in-Mkdir g c =
@@ -83,12 +97,12 @@ returns-in-Clean g c =
 
 pub returns-in-Write : goal.returns-in-Write
 returns-in-Write g c =
-    let told = c.write_file.ensures in
+    let told = c.write_setting.ensures in
     let does = told.written in
     rw c.in-Write.is (record {
       executed = record { steps = does.steps; does = record { does = does.does; cpu = refl }; makes = does.makes };
       groups = told.groups;
-      stays = keeps_visit g.N.BootName.table c.args.machine.now c.write_file.new.machine c.args.cpu.now (told.visit c.args.cpu.now c.requires.visit.visit);
+      stays = keeps_visit g.N.BootName.table c.args.machine.now c.write_setting.new.machine c.args.cpu.now (told.visit c.args.cpu.now c.requires.visit.visit);
       fresh = c.requires.visit.settled.0;
       at_most_high = none_fresh c.args.sizes c.args.cpu.now c.requires.visit.settled.0;
     })

@@ -3,31 +3,25 @@ use Rattle.group_charge.specs.Charges.{Ledger}
 use Rattle.mem_machine.specs.Steps.{remove_steps}
 use Rattle.mem_machine.proofs.Followed.{makes_both}
 use Rattle.mem_reclaim.proofs.Grown.{held_after}
-use Rattle.mem_system.specs.Leaves.{HasNoLeaf, IsLeafAt}
-use Rattle.mem_system.proofs.Found.{found_there}
+use Rattle.mem_system.specs.Leaves.{IsLeaf, IsNoLeaf}
 use Rattle.mem_system.proofs.Keeping.{lowered_groups, leaf_keeps}
 use Rattle.mem_system.proofs.Refusing.{none_removed}
 use Rattle.mem_system.proofs.groups.remove_group.Goals as goal
 
-pub lower_usage-requires-clause-there : goal.lower_usage-requires-clause-there
-lower_usage-requires-clause-there g c =
-    let leaf = subst (λ (l : Ledger). IsLeafAt l.groups c.args.path.now c.in-Ok.group) c.charges.ensures c.in-Ok.ensures in
-    found_there _ _ _ leaf.number
-
 pub current-requires : goal.current-requires
 current-requires g c =
-    let leaf = subst (λ (l : Ledger). IsLeafAt l.groups c.args.path.now c.in-Ok.group) c.charges.ensures c.in-Ok.ensures in
-    (leaf_keeps _ _ _ _ (lowered_groups g.N.BootName.table _ _ _ _ c.lower_usage.ensures.lowers) leaf).0
+    let leaf = subst (λ (l : Ledger). IsLeaf l.groups c.args.group) c.charges.ensures c.in_default.ensures in
+    (leaf_keeps _ _ _ (lowered_groups g.N.BootName.table _ _ _ _ c.lower_usage.ensures.lowers) c.requires.there leaf).0
 
 pub remove-requires-clause-there : goal.remove-requires-clause-there
 remove-requires-clause-there g c =
-    let leaf = subst (λ (l : Ledger). IsLeafAt l.groups c.args.path.now c.in-Ok.group) c.charges.ensures c.in-Ok.ensures in
-    (leaf_keeps _ _ _ _ (lowered_groups g.N.BootName.table _ _ _ _ c.lower_usage.ensures.lowers) leaf).0
+    let leaf = subst (λ (l : Ledger). IsLeaf l.groups c.args.group) c.charges.ensures c.in_default.ensures in
+    (leaf_keeps _ _ _ (lowered_groups g.N.BootName.table _ _ _ _ c.lower_usage.ensures.lowers) c.requires.there leaf).0
 
 pub remove-requires-clause-leaf : goal.remove-requires-clause-leaf
 remove-requires-clause-leaf g c =
-    let leaf = subst (λ (l : Ledger). IsLeafAt l.groups c.args.path.now c.in-Ok.group) c.charges.ensures c.in-Ok.ensures in
-    (leaf_keeps _ _ _ _ (lowered_groups g.N.BootName.table _ _ _ _ c.lower_usage.ensures.lowers) leaf).1
+    let leaf = subst (λ (l : Ledger). IsLeaf l.groups c.args.group) c.charges.ensures c.in_default.ensures in
+    (leaf_keeps _ _ _ (lowered_groups g.N.BootName.table _ _ _ _ c.lower_usage.ensures.lowers) c.requires.there leaf).1
 
 pub remove-requires-clause-held : goal.remove-requires-clause-held
 remove-requires-clause-held g c =
@@ -36,11 +30,10 @@ remove-requires-clause-held g c =
 
 pub returns-clause-removed : goal.returns-clause-removed
 returns-clause-removed g c =
-    let leaf = subst (λ (l : Ledger). IsLeafAt l.groups c.args.path.now c.in-Ok.group) c.charges.ensures c.in-Ok.ensures in
+    let leaf = subst (λ (l : Ledger). IsLeaf l.groups c.args.group) c.charges.ensures c.in_default.ensures in
     let lowers = c.lower_usage.ensures.lowers in record {
-      steps = lowers.steps ++ remove_steps c.in-Ok.group;
+      steps = lowers.steps ++ remove_steps c.args.group;
       does = record {
-        group = c.in-Ok.group;
         leaf = leaf;
         lowering = lowers.steps;
         emptied = c.lower_usage.new.machine;
@@ -49,7 +42,7 @@ returns-clause-removed g c =
         machine = c.remove.ensures.machine;
         steps_are = refl;
       };
-      makes = makes_both g.N.BootName.table lowers.steps (remove_steps c.in-Ok.group) c.args.machine.now c.lower_usage.new.machine
+      makes = makes_both g.N.BootName.table lowers.steps (remove_steps c.args.group) c.args.machine.now c.lower_usage.new.machine
           c.remove.new.self lowers.makes c.remove.ensures.steps;
     }
 
@@ -61,5 +54,5 @@ returns-then-current-gt0-clause-removed g c = search rules
 
 pub returns-in-Err-clause-removed : goal.returns-in-Err-clause-removed
 returns-in-Err-clause-removed g c =
-    none_removed g.N.BootName.table c.args.path.now c.in-Err.fault c.args.machine.now
-    (subst (λ (l : Ledger). HasNoLeaf l.groups c.args.path.now c.in-Err.fault) c.charges.ensures c.in-Err.ensures)
+    none_removed g.N.BootName.table c.args.group c.in-Err.fault c.args.machine.now
+    (subst (λ (l : Ledger). IsNoLeaf l.groups c.args.group c.in-Err.fault) c.charges.ensures c.in-Err.ensures)

@@ -1,13 +1,15 @@
 use Rattle.std.proofs.Common.{◌≡◌, ℕ, ◌+◌, ◌≤◌, List, length, ap, sym, ◌∙◌, refl, subst}
+use Rattle.group_tree.specs.declared.group.Group.{Group}
 use Rattle.group_charge.specs.Charges.{Ledger}
 use Rattle.boot_words.specs.Cpus.{KnownCpuSeat}
 use Rattle.mem_machine.specs.Machines.{KnownMachine}
-use Rattle.mem_system.specs.{CpuInRun, cpu_in_run, KnownLocked, HasItsGroups, reply_of, locked_state, IsServed}
+use Rattle.mem_system.specs.{CpuInRun, cpu_in_run, KnownLocked, HasItsGroups, NamesWhatExists, locked_state, IsServed}
 use Rattle.mem_system.proofs.Lost.{no_unit_is_lost}
+use Rattle.mem_system.proofs.Staying.{settled_groups}
 use Rattle.mem_system.proofs.Visiting.{GoesThrough, counted, forgotten_holds, forgotten_shut, resting_shut, served}
 use Rattle.mem_system.proofs.visits.serve_outcome.Given as given
 use Rattle.mem_system.proofs.visits.serve_outcome.Goals as goal
-use Rattle.mem_system.proofs.visits.serve_outcome.Goals.{After-unlock}
+use Rattle.mem_system.proofs.visits.serve_outcome.Goals.{After-settle, After-unlock}
 
 -- the calls of the visit, one after the other
 visit : (g : given.Over) (c : After-unlock g) → GoesThrough g.N.BootName.table c.locked.inside.machine c.cpu.inside.part c.cpu.inside.past
@@ -40,6 +42,21 @@ visit g c = record {
   unlocks = c.unlock.ensures.machine;
   gives = c.unlock.ensures.run;
 }
+
+-- settling leaves the groups that were found
+groups_found : (g : given.Over) (c : After-settle g) → c.settle.new.self.ledger.groups ≡ c.args.locked.now.machine.ledger.groups
+groups_found g c =
+    settled_groups g.N.BootName.table _ _ _ _ c.settle.ensures.settles
+    ∙ ap (λ (y : KnownMachine). y.ledger.groups) c.open.ensures.machine ∙ ap (λ (y : KnownMachine). y.ledger.groups) c.forget_notes.ensures
+    ∙ ap (λ (y : KnownMachine). y.ledger.groups) c.lock.ensures.machine ∙ ap (λ (y : KnownLocked). y.machine.ledger.groups) c.locked.view_is
+
+-- so what the command names exists then
+names_found : (g : given.Over) (c : After-settle g) → NamesWhatExists g.N.BootName.table c.settle.new.self.ledger.groups c.args.cmd.now
+names_found g c =
+    subst (λ (groups : List Group). NamesWhatExists g.N.BootName.table groups c.args.cmd.now) (sym (groups_found g c)) c.requires
+
+pub execute-outcome-requires-clause-names : goal.execute-outcome-requires-clause-names
+execute-outcome-requires-clause-names g c = names_found g (goal.at.execute-outcome-requires-clause-names g c).After-settle
 
 pub open-requires-clause-holds : goal.open-requires-clause-holds
 open-requires-clause-holds g c = forgotten_holds g.N.BootName.table c.lock.new.self c.forget_notes.new.self c.cpu.inside.part c.forget_notes.ensures c.lock.ensures.holds
@@ -78,16 +95,15 @@ returns g c =
     let k : KnownLocked = record { machine = c.unlock.new.self; sizes = c.locked.inside.sizes } in
     let executed = c.execute-outcome.ensures.executed in
     let stays = c.execute-outcome.ensures.stays in
-    let reply = reply_of c.execute-outcome.new.machine.ledger c.execute-outcome.result in
+    let outcome = c.execute-outcome.result in
     let kept : k.machine.ledger ≡ c.execute-outcome.new.machine.ledger =
     ap (λ (y : KnownMachine). y.ledger) c.unlock.ensures.machine ∙ ap (λ (y : KnownMachine). y.ledger) c.shut.ensures.machine in
-    let told : reply_of k.machine.ledger c.execute-outcome.result ≡ reply = ap (λ (l : Ledger). reply_of l c.execute-outcome.result) kept in
-    rw told record {
-      groups = subst (λ (l : Ledger). HasItsGroups l c.execute-outcome.result) (sym kept) c.execute-outcome.ensures.groups;
-      served = subst (λ (y : KnownLocked × CpuInRun). IsServed t c.args.cmd.now reply (locked_state y.0 y.1) (locked_state k (cpu_in_run d c.unlock.new.seat)))
+    record {
+      groups = subst (λ (l : Ledger). HasItsGroups l outcome) (sym kept) c.execute-outcome.ensures.groups;
+      served = subst (λ (y : KnownLocked × CpuInRun). IsServed t c.args.cmd.now outcome (locked_state y.0 y.1) (locked_state k (cpu_in_run d c.unlock.new.seat)))
           (λ i. (c.locked.view_is i, c.cpu.view_is i))
-          (served t c.args.cmd.now reply l k c.cpu.inside.part c.cpu.inside.past executed.steps d c.unlock.new.seat
-          (visit g (goal.at.returns g c).After-unlock) refl executed.does);
+          (served t c.args.cmd.now outcome l k c.cpu.inside.part c.cpu.inside.past executed.steps d c.unlock.new.seat
+          (visit g (goal.at.returns g c).After-unlock) refl (names_found g (goal.at.returns g c).After-settle) executed.does);
       settled = (c.execute-outcome.ensures.fresh, stays.back ∙ c.settle.ensures.none_back);
       ends = record {
         at_most_high = subst (λ (y : KnownLocked × CpuInRun). length y.1.part.list ≤ y.0.sizes.high → length d.list + length d.fresh ≤ y.0.sizes.high)

@@ -12,8 +12,8 @@ returns-clause-answer g c path is =
     let at = c.args.cpu - 1 in
     let part : CpuInRun = get_or cpus at c.index-cpus-at.result in
     let frames = g.N.BootName.table.frames in
-    let there : CpuCommandInRange frames (length cpus) c.args.cpu (Alloc path 0) = record { low = c.requires.low; high = c.requires.high; names = tt } in
-    command_said g.N.BootName.table c.args.locked.now c.serve_frame_of-value.new.locked cpus c.args.cpu (Alloc path 0)
-    part c.serve_frame_of-value.new.cpu _ tt
-    (part_of cpus frames c.args.cpu (Alloc path 0) part there (ap (λ (d : CpuInRun). get_or cpus at d) c.index-cpus-at.is))
-    (c.serve_frame_of-value.ensures.answer path is) c.prove_sound.ensures
+    let there : CpuCommandInRange frames (length cpus) c.args.cpu (Alloc path c.args.order) = record { low = c.requires.low; high = c.requires.high; names = tt } in
+    command_said g.N.BootName.table c.args.locked.now c.serve_alloc_of-value.new.locked cpus c.args.cpu (Alloc path c.args.order)
+    part c.serve_alloc_of-value.new.cpu _ tt
+    (part_of cpus frames c.args.cpu (Alloc path c.args.order) part there (ap (λ (d : CpuInRun). get_or cpus at d) c.index-cpus-at.is))
+    (c.serve_alloc_of-value.ensures.answer path is) c.prove_sound.ensures

@@ -38,7 +38,7 @@ pub returns-in_default-clause-answer : goal.returns-in_default-clause-answer
 returns-in_default-clause-answer g c path is =
     let l = c.args.locked.now in
     let tried = c.alloc_in_order in
-    let served = c.serve_frame_under_lock in
+    let served = c.alloc_under_lock in
     lock_served (terms g.N.BootName.table c.args.is_explained) (Alloc path 0) l served.new.locked c.args.cpu.now served.new.cpu
     (locked_state tried.new.locked tried.new.cpu) (answer_of served.new.locked.machine.ledger served.result) (record {
       group = c.args.group;

@@ -1,5 +1,6 @@
 use Rattle.std.proofs.Common.{◌==◌, ◌<◌, not, set, sym, ap, ◌∙◌, subst, rules, tests}
 use Rattle.std.proofs.lemmas.Fn.{filter_same}
+use Rattle.group_tree.specs.Bounds.{most_groups}
 use Rattle.group_tree.specs.Groups.{Group, AreGroups, without_group}
 use Rattle.group_tree.proofs.GroupLemmas.{AreGroups-without}
 use Rattle.group_tree.specs.Slots.{AreSlots, free_slot}
@@ -20,6 +21,6 @@ invariant_of-self c =
       subst (λ rows. AreSlots rows (set c.self.inside.slots c.number-number.result c.free_slot.result)) (sym (returns c))
           (subst (AreSlots (without_group c.args.self.now c.args.group)) (ap (λ n. set c.self.inside.slots n free_slot) (sym c.number-number.ensures.value)
           ∙ ap (set c.self.inside.slots c.number-number.result) (sym c.free_slot.ensures))
-          (AreSlots-without c.args.self.now c.self.inside.slots c.args.group (subst (λ n. n < 64) c.number-number.ensures.value c.number-number.ensures.below)
+          (AreSlots-without c.args.self.now c.self.inside.slots c.args.group (subst (λ n. n < most_groups) c.number-number.ensures.value c.number-number.ensures.below)
           (subst (λ rows. AreSlots rows c.self.inside.slots) c.self.view_is c.self.invariant.2))),
     )

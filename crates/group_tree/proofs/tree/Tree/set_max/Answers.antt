@@ -1,5 +1,5 @@
 use Rattle.std.proofs.Common.{◌≡◌, ◌++◌, take, drop, length, sym, ap, ◌∙◌, subst, rules, ◌<◌, arith, set, get_or}
-use Rattle.group_tree.specs.{AreGroups, with_limit, AreSlots, free_slot}
+use Rattle.group_tree.specs.{most_groups, AreGroups, with_limit, AreSlots, free_slot}
 use Rattle.group_tree.proofs.GroupLemmas.{AreGroups-limited, length-limited, take_new}
 use Rattle.std.proofs.lemmas.List.{get_or_default}
 use Rattle.group_tree.proofs.SlotLemmas.{AreSlots-limited, limit_set}
@@ -22,5 +22,5 @@ invariant_of-self c =
           ∙ ap (λ l. set c.self.inside.slots c.number.result (record l { limit = c.args.limit }))
           (get_or_default c.self.inside.slots c.number.result free_slot c.index-self-number.result within))
           (AreSlots-limited old c.self.inside.slots c.args.group c.args.limit
-          (subst (λ n. n < 64) c.number.ensures.value c.number.ensures.below) c.self.invariant.2)),
+          (subst (λ n. n < most_groups) c.number.ensures.value c.number.ensures.below) c.self.invariant.2)),
     )

@@ -1,4 +1,4 @@
-use Rattle.std.proofs.Common.{◌≡◌, ℕ, ◌+◌, ◌≤◌, arith, refl, sym, subst}
+use Rattle.std.proofs.Common.{ℕ, ◌+◌, arith, refl, sym, subst}
 use Rattle.mem_machine.proofs.DrainingAll.{DrainedOfChosen, all_drained, drained_end, first_chosen, one_drained}
 use Rattle.mem_machine.proofs.machine.Machine.drain_each.Goals as goal
 

@@ -1,5 +1,6 @@
 use Rattle.std.proofs.Common.{◌<◌, rules, sym}
 use Rattle.mem_machine.specs.Kept.{machine_of}
+use Rattle.mem_machine.proofs.Clean.{clean_after_free}
 use Rattle.mem_machine.proofs.Fresh.{collect_legal, drop_all, drop_charged, drop_in_use, dropped_notes, may_return, none_reported_here, sum_some, unit_inside}
 use Rattle.mem_machine.proofs.Made.{visits_here}
 use Rattle.mem_machine.proofs.Noted.{legal_step}
@@ -53,7 +54,7 @@ invariant_of-self g c =
     let all = drop_all t (machine_of c.self.inside) _ c.self.view_is c.args.cpu.now c.requires.visit c.self.invariant.consistent c.args.group c.requires.group
     c.collect_fresh-frame.result _ e.cpu.front _ _ _ _ _ c.self.invariant.free c.self.invariant.sums c.self.invariant.owners fits c.requires.killed _ e.cpu e.sums _ _
     c.number-at.ensures c.single_order-order.ensures _ u.frame_states _ u.frames u.areas _ u.charges _ c.with_killed_fresh-self-inside.ensures _ notes in
-    record { consistent = all.consistent; free = all.free_is; sums = all.sums_are; owners = all.owners_are }
+    record { consistent = all.consistent; free = all.free_is; clean = clean_after_free t _ all.consistent _ _ _ _ u.frame_states c.self.invariant.clean; sums = all.sums_are; owners = all.owners_are }
 
 pub returns : goal.returns
 returns g c =

@@ -1,7 +1,8 @@
-use Rattle.std.proofs.Common.{Some, None, refl, arith, rules}
+use Rattle.std.proofs.Common.{Some, None, refl, subst, sym, arith, rules}
 use Rattle.step_rules.specs.declared.step.Action.TheVariants.{Freeze}
 use Rattle.step_rules.specs.declared.step.Answer.TheVariants.{Done, Missed}
-use Rattle.mem_machine.specs.{evict_steps, machine_of}
+use Rattle.mem_machine.specs.{AreCleanCounts, evict_steps, machine_of}
+use Rattle.mem_machine.proofs.Clean.{clean_after_free, clean_left_here, clean_there_here}
 use Rattle.mem_machine.proofs.Freeing.{unit_in_use, unit_charged}
 use Rattle.mem_machine.proofs.Noted.{legal_step}
 use Rattle.mem_machine.proofs.Releases.{notes_back, notes_of_zone, read_head, return_may}
@@ -27,6 +28,7 @@ invariant_of-self g c =
       consistent = (missed_all t m _ c.self.view_is c.self.invariant.consistent c.args.head c.requires.frame c.requires.kept c.requires.held _
           c.with_miss-self-inside.ensures _ noted).consistent;
       free = c.self.invariant.free;
+      clean = c.self.invariant.clean;
       sums = sums_stay t m held (evict_steps c.args.head None) _ noted (same_books _ _ refl) _ c.self.invariant.sums;
       owners = owners_stay t m held (evict_steps c.args.head None) _ noted (same_books _ _ refl) _ c.self.invariant.owners;
     }
@@ -39,6 +41,13 @@ returns-then-not-freeze g c =
     (notes_of_zone t m.run _ c.args.head _ c.number-frame.ensures (λ x. Freeze x 1) Missed
     (made_at _ _ c.args.tables.now.words_are 0 refl _ _ _ _ c.if-not-freeze.ensures) (c.take.ensures _ _ (search rules))) in
     record { evicts = all.misses; visit = all.visit; steps = all.steps }
+
+pub leave_list-requires-clause-counted : goal.leave_list-requires-clause-counted
+leave_list-requires-clause-counted g c =
+    let t = g.N.BootName.table in
+    let m = machine_of c.self.inside in
+    let head = read_head t m c.self.invariant.consistent c.args.head _ c.requires.frame c.number-frame.ensures _ c.in-Head.unit c.index.ensures c.in-Head.is in
+    clean_there_here t m _ c.self.view_is c.self.invariant.consistent c.args.head _ c.requires.frame c.number-frame.ensures c.requires.kept c.in-Head.unit head _ c.self.invariant.clean
 
 pub free_unit-requires : goal.free_unit-requires
 free_unit-requires g c =
@@ -75,6 +84,9 @@ invariant_of-self-2 g c =
     record {
       consistent = all.consistent;
       free = all.free_is;
+      clean = clean_after_free t _ all.consistent _ _ _ _ c.free_unit.ensures.frame_states (subst (AreCleanCounts _ _) (sym c.leave_list.ensures.clean)
+          (clean_left_here t m _ c.self.view_is c.self.invariant.consistent c.args.head _ c.requires.frame c.number-frame.ensures c.requires.kept c.in-Head.unit head _
+          c.self.invariant.clean _ _ c.leave_list.ensures.leaves));
       sums = sums_stay t m held (evict_steps c.args.head (Some 1)) _ noted (same_books _ _ refl) _ c.self.invariant.sums;
       owners = owners_stay t m held (evict_steps c.args.head (Some 1)) _ noted (same_books _ _ refl) _ c.self.invariant.owners;
     }

@@ -1,5 +1,7 @@
-use Rattle.std.proofs.Common.{◌<◌, rules, sym, arith}
-use Rattle.mem_machine.specs.Kept.{machine_of}
+use Rattle.std.proofs.Common.{◌<◌, rules, ap, subst, sym, arith}
+use Rattle.lru_lists.specs.{owner_of}
+use Rattle.mem_machine.specs.{AreCleanCounts, machine_of}
+use Rattle.mem_machine.proofs.Clean.{clean_kept_here, clean_room}
 use Rattle.mem_machine.proofs.Fresh.{away_here, collect_legal, keep_all, kept_notes, may_publish, none_reported_here, sum_some, within_here}
 use Rattle.mem_machine.proofs.Made.{visits_here}
 use Rattle.mem_machine.proofs.machine.Machine.keep_one.Goals as goal
@@ -33,6 +35,11 @@ join_list-requires-clause-frame g c =
     let sizes = c.self.invariant.consistent.sizes in
     omega (arith, inside, sizes.frame_states, sizes.links)
 
+pub join_list-requires-clause-room : goal.join_list-requires-clause-room
+join_list-requires-clause-room g c =
+    let fits : c.args.group < 64 = search rules in
+    clean_room g.N.BootName.table (machine_of c.self.inside) c.self.invariant.consistent _ c.self.invariant.clean c.args.group fits
+
 pub join_list-requires-clause-away : goal.join_list-requires-clause-away
 join_list-requires-clause-away g c =
     away_here g.N.BootName.table (machine_of c.self.inside) _ c.self.view_is c.args.cpu.now c.requires.visit c.self.invariant.consistent c.args.group c.requires.group
@@ -55,7 +62,13 @@ invariant_of-self g c =
     let all = keep_all t (machine_of c.self.inside) _ c.self.view_is c.args.cpu.now c.requires.visit c.self.invariant.consistent c.args.group c.requires.group
     c.collect_fresh-head.result _ e.cpu.front _ _ _ _ c.self.invariant.free c.self.invariant.sums c.self.invariant.owners fits _ e.cpu e.sums _ _ c.number-frame.ensures
     c.single_order-order.ensures _ _ (record { joins = a.joins; stand = a.lists.stand; frames = a.frames; groups = a.lists.groups }) _ notes in
-    record { consistent = all.consistent; free = all.free_is; sums = all.sums_are; owners = all.owners_are }
+    let away = away_here t (machine_of c.self.inside) _ c.self.view_is c.args.cpu.now c.requires.visit c.self.invariant.consistent c.args.group c.requires.group
+    c.collect_fresh-head.result _ e.cpu.front _ c.number-frame.ensures in
+    let inside = within_here t (machine_of c.self.inside) _ c.self.view_is c.args.cpu.now c.requires.visit c.self.invariant.consistent c.args.group
+    c.requires.group c.collect_fresh-head.result _ e.cpu.front _ c.number-frame.ensures in
+    let sized = c.self.invariant.consistent.sizes.frame_states in
+    let clean = subst (AreCleanCounts _ _) (sym a.clean) (clean_kept_here _ _ _ _ (record { group = c.args.group; order = c.single_order-order.result }) _ (omega (arith, inside, sized)) a.used a.dirt away (ap owner_of a.joins.home) fits c.self.invariant.clean) in
+    record { consistent = all.consistent; free = all.free_is; clean = clean; sums = all.sums_are; owners = all.owners_are }
 
 pub returns : goal.returns
 returns g c =

@@ -1,6 +1,7 @@
-use Rattle.std.proofs.Common.{◌<◌, sym, arith, rules}
+use Rattle.std.proofs.Common.{◌<◌, sym, arith, rules, refl}
 use Rattle.mem_machine.specs.Kept.{machine_of}
 use Rattle.mem_machine.specs.Steps.{lend_steps}
+use Rattle.mem_machine.proofs.Clean.{clean_after_set}
 use Rattle.mem_machine.proofs.Collecting.{turn_notes}
 use Rattle.mem_machine.proofs.Lends.{given_free, lent_all, may_lend, number_low}
 use Rattle.mem_machine.proofs.Made.{visits_here}
@@ -41,7 +42,7 @@ invariant_of-self g c =
     let all = lent_all t (machine_of c.self.inside) _ c.self.view_is c.args.cpu.now c.requires.visit c.self.invariant.consistent c.args.frame c.requires.frame c.requires.free
     _ _ _ _ _ _ _ _ c.self.invariant.free c.self.invariant.sums c.self.invariant.owners c.take_frame.ensures.frames c.take_frame.ensures.areas c.number-given.ensures
     c.number-cpu_number.ensures.number c.borrow.ensures.cpu _ noted in
-    record { consistent = all.consistent; free = all.free_is; sums = all.sums_are; owners = all.owners_are }
+    record { consistent = all.consistent; free = all.free_is; clean = clean_after_set t _ all.consistent _ _ _ _ refl refl c.self.invariant.clean; sums = all.sums_are; owners = all.owners_are }
 
 pub returns : goal.returns
 returns g c =

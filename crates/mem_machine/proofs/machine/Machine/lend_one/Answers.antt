@@ -1,8 +1,9 @@
-use Rattle.std.proofs.Common.{◌<◌, ◌≤◌, ap, sym, subst, arith, rules}
+use Rattle.std.proofs.Common.{◌<◌, ◌≤◌, ap, sym, subst, arith, rules, refl}
 use Rattle.zone_blocks.specs.Zone.{BuddyZone}
 use Rattle.boot_words.specs.Tables.{KnownTable}
 use Rattle.mem_machine.specs.Kept.{machine_of}
 use Rattle.mem_machine.specs.Steps.{lend_steps}
+use Rattle.mem_machine.proofs.Clean.{clean_after_set}
 use Rattle.mem_machine.proofs.Collecting.{turn_notes}
 use Rattle.mem_machine.proofs.Lends.{block_inside, first_lent, lent_to_none, may_lend_first, number_low}
 use Rattle.mem_machine.proofs.Made.{visits_here}
@@ -43,7 +44,7 @@ invariant_of-self-2 g c =
     let all = first_lent t (machine_of c.self.inside) _ c.self.view_is c.args.cpu.now c.requires.visit c.self.invariant.consistent
     _ _ c.single_order.result c.in-Some.block c.in-Some-frame.frame c.self.invariant.free c.single_order.ensures c.in-Some.ensures.taken c.in-Some.ensures.frames c.in-Some-frame.ensures.0
     _ _ _ _ _ _ c.self.invariant.sums c.self.invariant.owners c.in-Some.ensures.areas c.number-at.ensures c.number-cpu_number.ensures.number c.borrow.ensures.cpu _ noted in
-    record { consistent = all.consistent; free = all.free_is; sums = all.sums_are; owners = all.owners_are }
+    record { consistent = all.consistent; free = all.free_is; clean = clean_after_set t _ all.consistent _ _ _ _ refl refl c.self.invariant.clean; sums = all.sums_are; owners = all.owners_are }
 
 pub returns : goal.returns
 returns g c =

@@ -1,4 +1,4 @@
-use Rattle.std.proofs.Common.{◌≡◌, sym, subst}
+use Rattle.std.proofs.Common.{sym, subst}
 use Rattle.step_rules.specs.declared.phase.Hold.TheVariants.{HeldBy}
 use Rattle.boot_words.specs.Pasts.{Locks, own_past}
 use Rattle.boot_words.specs.Cpus.{IsAwayCpu}

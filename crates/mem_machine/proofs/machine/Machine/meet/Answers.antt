@@ -1,5 +1,4 @@
-use Rattle.std.proofs.Common.{◌≡◌, sym, ap, ◌∙◌, subst}
-use Rattle.step_rules.specs.State.{State}
+use Rattle.std.proofs.Common.{sym, subst}
 use Rattle.boot_words.specs.{Meets, IsAwayCpu, KnownTable}
 use Rattle.mem_machine.specs.{machine_of, KnownMachine, left_by}
 use Rattle.mem_machine.proofs.Locks.{met_knows, rests_at, sound_then}

@@ -1,8 +1,9 @@
-use Rattle.std.proofs.Common.{refl, arith, rules}
+use Rattle.std.proofs.Common.{refl, subst, sym, arith, rules}
 use Rattle.step_rules.specs.declared.step.Action.TheVariants.{Put}
 use Rattle.step_rules.specs.declared.step.Answer.TheVariants as answer
 use Rattle.mem_machine.specs.declared.releasing.Released.TheVariants.{Left, Returned}
-use Rattle.mem_machine.specs.{machine_of, release_steps}
+use Rattle.mem_machine.specs.{AreCleanCounts, machine_of, release_steps}
+use Rattle.mem_machine.proofs.Clean.{clean_after_free, clean_left_here, clean_there_here}
 use Rattle.mem_machine.proofs.Freeing.{unit_in_use, unit_charged}
 use Rattle.mem_machine.proofs.Noted.{legal_step}
 use Rattle.mem_machine.proofs.Releases.{left_all, left_few, notes_back, notes_of_zone, put_may, put_returns, read_head, return_may, returned_all}
@@ -11,6 +12,13 @@ use Rattle.mem_machine.proofs.Made.{held_here}
 use Rattle.mem_machine.proofs.Staying.{owners_stay, sums_stay}
 use Rattle.mem_machine.proofs.ZoneSteps.{same_books}
 use Rattle.mem_machine.proofs.machine.Machine.put_zone_reference.Goals as goal
+
+pub leave_list-requires-clause-counted : goal.leave_list-requires-clause-counted
+leave_list-requires-clause-counted g c =
+    let t = g.N.BootName.table in
+    let m = machine_of c.self.inside in
+    let head = read_head t m c.self.invariant.consistent c.args.head _ c.requires.frame c.number-at.ensures _ c.in-Head.unit c.index.ensures c.in-Head.is in
+    clean_there_here t m _ c.self.view_is c.self.invariant.consistent c.args.head _ c.requires.frame c.number-at.ensures c.requires.kept c.in-Head.unit head _ c.self.invariant.clean
 
 pub put_held-requires-clause-legal : goal.put_held-requires-clause-legal
 put_held-requires-clause-legal g c = may_at _ _ c.args.tables.now.words_are 0 refl c.self.inside.past (Put c.args.head)
@@ -37,6 +45,10 @@ invariant_of-self g c =
     record {
       consistent = all.consistent;
       free = all.free_is;
+      clean = subst (AreCleanCounts _ _) (sym c.leave_list.ensures.clean)
+          (clean_left_here t m _ c.self.view_is c.self.invariant.consistent c.args.head _ c.requires.frame c.number-at.ensures c.requires.kept c.in-Head.unit
+          (read_head t m c.self.invariant.consistent c.args.head _ c.requires.frame c.number-at.ensures _ c.in-Head.unit c.index.ensures c.in-Head.is) _
+          c.self.invariant.clean _ _ c.leave_list.ensures.leaves);
       sums = sums_stay t m held (release_steps c.args.head (Left c.in-Left.left)) _ noted (same_books _ _ refl) _ c.self.invariant.sums;
       owners = owners_stay t m held (release_steps c.args.head (Left c.in-Left.left)) _ noted (same_books _ _ refl) _ c.self.invariant.owners;
     }
@@ -88,12 +100,15 @@ invariant_of-self-in-Last g c =
     record {
       consistent = all.consistent;
       free = all.free_is;
+      clean = clean_after_free t _ all.consistent _ _ _ _ c.free_unit.ensures.frame_states (subst (AreCleanCounts _ _) (sym c.leave_list.ensures.clean)
+          (clean_left_here t m _ c.self.view_is c.self.invariant.consistent c.args.head _ c.requires.frame c.number-at.ensures c.requires.kept c.in-Head.unit head _
+          c.self.invariant.clean _ _ c.leave_list.ensures.leaves));
       sums = sums_stay t m held (release_steps c.args.head Returned) _ noted (same_books _ _ refl) _ c.self.invariant.sums;
       owners = owners_stay t m held (release_steps c.args.head Returned) _ noted (same_books _ _ refl) _ c.self.invariant.owners;
     }
 
-pub returns-in-Head : goal.returns-in-Head
-returns-in-Head g c =
+pub returns-in-Last : goal.returns-in-Last
+returns-in-Last g c =
     let t = g.N.BootName.table in
     let m = machine_of c.self.inside in
     let head = read_head t m c.self.invariant.consistent c.args.head _ c.requires.frame c.number-at.ensures _ c.in-Head.unit c.index.ensures c.in-Head.is in

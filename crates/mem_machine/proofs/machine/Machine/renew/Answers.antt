@@ -1,4 +1,5 @@
 use Rattle.mem_machine.proofs.OneGroup.{change_all, renews_unit}
+use Rattle.mem_machine.proofs.Clean.{clean_owners}
 use Rattle.mem_machine.proofs.machine.Machine.renew.Goals as goal
 
 pub invariant_of-self : goal.invariant_of-self
@@ -8,6 +9,7 @@ invariant_of-self g c =
           c.number-owner.ensures.value _ _ c.index_mut.ensures.value _ _ a.linked a.owner a.others a.owners c.others_stay_linked.ensures
           c.one_of_all_changes.ensures).consistent;
       free = c.self.invariant.free;
+      clean = clean_owners _ _ _ _ a.owners c.self.invariant.clean;
       sums = c.self.invariant.sums;
       owners = c.self.invariant.owners;
     }

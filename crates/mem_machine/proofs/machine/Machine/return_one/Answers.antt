@@ -1,5 +1,6 @@
 use Rattle.std.proofs.Common.{◌∙◌, sym, rules}
 use Rattle.mem_machine.specs.Kept.{machine_of}
+use Rattle.mem_machine.proofs.Clean.{clean_after_free}
 use Rattle.mem_machine.proofs.Back.{back_may_pass, holder_then, may_collect, may_return, not_other, read_head, return_all, returned_notes}
 use Rattle.mem_machine.proofs.Freeing.{unit_charged, unit_in_use}
 use Rattle.mem_machine.proofs.Made.{visits_here}
@@ -62,7 +63,7 @@ invariant_of-self-2 g c =
     e.collected e.watched _ c.number-at.ensures _ (c.make_step.ensures.notes _ _ (search rules)) in
     let all = return_all t m _ c.self.view_is c.args.cpu.now c.requires ok c.in-Some.frame _ c.in-Some.ensures.answer _ _ _ _ c.self.invariant.free
     c.self.invariant.sums c.self.invariant.owners _ c.number-at.ensures _ heads _ u.frame_states _ u.frames u.areas _ u.charges _ c.with_last_put-self-inside.ensures _ notes in
-    record { consistent = all.consistent; free = all.free_is; sums = all.sums_are; owners = all.owners_are }
+    record { consistent = all.consistent; free = all.free_is; clean = clean_after_free t _ all.consistent _ _ _ _ u.frame_states c.self.invariant.clean; sums = all.sums_are; owners = all.owners_are }
 
 pub returns : goal.returns
 returns g c =

@@ -21,7 +21,7 @@ invariant_of-self g c =
     (sets_max g.N.BootName.table (machine_of c.self.inside) _ c.self.view_is c.self.invariant.consistent c.requires.held c.args.group c.requires.there c.args.limit
     c.requires.below_root _ c.set_max.ensures.limited)
     c.set_max.ensures.pages c.self.invariant.consistent.sizes.killed _ (c.make_step.ensures.notes _ _ (search rules)) _ refl in
-    record { consistent = all.consistent; free = c.self.invariant.free; sums = all.sums _ c.self.invariant.sums; owners = all.owners _ c.self.invariant.owners }
+    record { consistent = all.consistent; free = c.self.invariant.free; clean = c.self.invariant.clean; sums = all.sums _ c.self.invariant.sums; owners = all.owners _ c.self.invariant.owners }
 
 pub returns-clause-steps : goal.returns-clause-steps
 returns-clause-steps g c =

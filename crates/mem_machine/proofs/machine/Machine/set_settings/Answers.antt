@@ -9,6 +9,7 @@ pub invariant_of-self : goal.invariant_of-self
 invariant_of-self g c = record {
   consistent = settings_consistent g.N.BootName.table (machine_of c.self.inside) _ c.args.group c.args.settings c.set_settings.ensures c.self.invariant.consistent;
   free = c.self.invariant.free;
+  clean = c.self.invariant.clean;
   sums = c.self.invariant.sums;
   owners = c.self.invariant.owners;
 }

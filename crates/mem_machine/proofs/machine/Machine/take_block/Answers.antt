@@ -5,7 +5,8 @@ use Rattle.zone_blocks.specs.Zone.{BuddyZone}
 use Rattle.step_rules.specs.declared.step.Action.TheVariants.{Grant}
 use Rattle.step_rules.specs.declared.step.Answer.TheVariants.{Over}
 use Rattle.step_rules.specs.After.{zone_makes}
-use Rattle.mem_machine.specs.{machine_of, KnownMachine, Records, over_steps, taken_steps, unplaced_steps}
+use Rattle.mem_machine.specs.{AreCleanCounts, clean_joined, machine_of, KnownMachine, Records, over_steps, taken_steps, unplaced_steps}
+use Rattle.mem_machine.proofs.Clean.{clean_placed, clean_room}
 use Rattle.mem_machine.proofs.GroupSteps.{may_group}
 use Rattle.mem_machine.proofs.Made.{held_here}
 use Rattle.mem_machine.proofs.Noted.{legal_step}
@@ -30,7 +31,7 @@ invariant_of-self g c =
     let m = machine_of c.self.inside in
     let all = refused_all t m _ c.self.view_is c.self.invariant.consistent c.prove_charges.ensures.legal c.requires.visit.held c.args.group _ c.frames-pages.result
     c.in-Err.over.group c.requires.charges c.in-Err.ensures.over _ c.in-Err.ensures.unchanged _ (c.make_step.ensures.notes _ _ (search rules)) in
-    record { consistent = all.consistent; free = c.self.invariant.free; sums = all.sums _ c.self.invariant.sums; owners = all.owners _ c.self.invariant.owners }
+    record { consistent = all.consistent; free = c.self.invariant.free; clean = c.self.invariant.clean; sums = all.sums _ c.self.invariant.sums; owners = all.owners _ c.self.invariant.owners }
 
 pub returns-in-Err-clause-steps : goal.returns-in-Err-clause-steps
 returns-in-Err-clause-steps g c =
@@ -80,6 +81,7 @@ invariant_of-self-in_default-take g c =
           c.frames-pages.ensures.frames c.requires.charges (c.in_default.ensures.granted.0 refl) _ _ c.in_default.ensures.charged c.in_default.ensures.pages
           c.uncharge.ensures.uncharged _ (ap (λ (z : BuddyZone). z.blocks) c.in_default-take.ensures.none) c.in_default-take.ensures.taken _ noted).consistent;
       free = ap (λ (z : BuddyZone). z.free) c.in_default-take.ensures.none ∙ c.self.invariant.free;
+      clean = c.self.invariant.clean;
       sums = sums_stay t m held (unplaced_steps c.args.group c.args.order) _ noted (same_books _ _ refl) _ c.self.invariant.sums;
       owners = owners_stay t m held (unplaced_steps c.args.group c.args.order) _ noted (same_books _ _ refl) _ c.self.invariant.owners;
     }
@@ -106,6 +108,11 @@ unreachable-requires g c =
 pub place_unit-requires : goal.place_unit-requires
 place_unit-requires g c =
     (taken_inside _ _ c.self.invariant.consistent.areas _ _ c.self.invariant.free _ c.in-Some.block c.in-Some.ensures.taken c.in-Some.ensures.frames).inside
+
+pub join_list-requires-clause-room : goal.join_list-requires-clause-room
+join_list-requires-clause-room g c =
+    let fits : c.args.group < 64 = search rules in
+    clean_room g.N.BootName.table (machine_of c.self.inside) c.self.invariant.consistent _ c.self.invariant.clean c.args.group fits
 
 pub join_list-requires-clause-away : goal.join_list-requires-clause-away
 join_list-requires-clause-away g c =
@@ -142,6 +149,10 @@ invariant_of-self-2 g c =
     record {
       consistent = all.consistent;
       free = all.free_is;
+      clean = subst (AreCleanCounts _ _) (sym (j.clean ∙ ap (λ (o : ℕ). clean_joined c.args.group o c.self.inside.clean) (sym c.in-Some.ensures.taken.order_is)))
+          (clean_placed t _ all.consistent _ _ _ c.args.group c.in-Some.block _ (head_inside _ _ c.self.invariant.consistent.areas _ _ c.self.invariant.free _ c.in-Some.block c.in-Some.ensures.taken c.in-Some.ensures.frames)
+          c.place_unit.ensures j.joins j.used j.dirt (was_away t m c.self.invariant.consistent _ _ c.in-Some.block c.self.invariant.free _ c.in-Some.ensures.taken
+          c.in-Some.ensures.frames) fits c.self.invariant.clean);
       sums = sums_stay t m held (taken_steps c.args.group c.args.order c.in-Some-frame.head) _ noted (same_books _ _ refl) _ c.self.invariant.sums;
       owners = owners_stay t m held (taken_steps c.args.group c.args.order c.in-Some-frame.head) _ noted (same_books _ _ refl) _ c.self.invariant.owners;
     }

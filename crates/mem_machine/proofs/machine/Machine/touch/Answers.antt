@@ -1,3 +1,4 @@
+use Rattle.mem_machine.proofs.Clean.{clean_owners}
 use Rattle.mem_machine.proofs.Dirties.{has_home}
 use Rattle.mem_machine.proofs.Touching.{touch_all}
 use Rattle.mem_machine.proofs.machine.Machine.touch.Goals as goal
@@ -12,6 +13,7 @@ invariant_of-self g c = record {
       c.touch-touched.ensures.touches
       c.touch-touched.ensures.others c.others_stay_linked.ensures c.one_of_all_changes.ensures).consistent;
   free = c.self.invariant.free;
+  clean = clean_owners _ _ _ _ c.touch-touched.ensures.owners c.self.invariant.clean;
   sums = c.self.invariant.sums;
   owners = c.self.invariant.owners;
 }

@@ -1,5 +1,6 @@
-use Rattle.std.proofs.Common.{rules, sym, ◌∙◌, arith}
+use Rattle.std.proofs.Common.{rules, sym, ◌∙◌, arith, refl}
 use Rattle.mem_machine.specs.Kept.{machine_of}
+use Rattle.mem_machine.proofs.Clean.{clean_after_set}
 use Rattle.mem_machine.proofs.Collecting.{passed_notes}
 use Rattle.mem_machine.proofs.Made.{visits_here}
 use Rattle.mem_machine.proofs.Takes.{may_collect_front, may_give, may_pass_front, unlisted_all}
@@ -41,7 +42,7 @@ invariant_of-self-2 g c =
     c.collect_passed.ensures.watched in
     let all = unlisted_all t (machine_of c.self.inside) _ c.self.view_is c.args.cpu.now c.requires c.self.invariant.consistent c.in-Some.frame _ c.in-Some.ensures.answer _ _ c.single_order.result _ _ _ _ c.self.invariant.free
     c.self.invariant.sums c.self.invariant.owners c.single_order.ensures c.give.ensures.frames c.give.ensures.areas c.number-at.ensures _ noted in
-    record { consistent = all.consistent; free = all.free_is; sums = all.sums_are; owners = all.owners_are }
+    record { consistent = all.consistent; free = all.free_is; clean = clean_after_set t _ all.consistent _ _ _ _ refl refl c.self.invariant.clean; sums = all.sums_are; owners = all.owners_are }
 
 pub returns : goal.returns
 returns g c =

@@ -5,9 +5,9 @@ use Rattle.mem_system.proofs.system.System.alloc_dirty.Goals as goal
 pub returns-clause-served : goal.returns-clause-served
 returns-clause-served g c = record {
   found = c.deref_mut-locked.result.now;
-  left = c.serve_dirty_alloc-outcome.new.locked;
+  left = c.serve_dirty_at-outcome.new.locked;
   sizes_are = ap (λ (l : KnownLocked). l.sizes) c.deref_mut-locked.ensures.value ∙ c.lock-guard.ensures;
   sound_before = search rules;
-  served = c.serve_dirty_alloc-outcome.ensures.served;
+  served = c.serve_dirty_at-outcome.ensures.served;
   sound_after = search rules;
 }

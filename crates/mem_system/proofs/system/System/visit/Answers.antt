@@ -1,8 +1,5 @@
 use Rattle.std.proofs.Common.{rules}
 use Rattle.mem_system.proofs.system.System.visit.Goals as goal
 
-pub returns-clause-served : goal.returns-clause-served
-returns-clause-served g c = search rules
-
-pub returns-clause-settled : goal.returns-clause-settled
-returns-clause-settled g c = search rules
+pub returns : goal.returns
+returns g c = search rules

@@ -4,13 +4,10 @@ use Rattle.mem_system.proofs.system.System.visit_into.Goals as goal
 
 pub returns : goal.returns
 returns g c = record {
-  served = record {
-    found = c.deref_mut-locked.result.now;
-    left = c.serve_into.new.locked;
-    sizes_are = ap (λ (l : KnownLocked). l.sizes) c.deref_mut-locked.ensures.value ∙ c.lock-guard.ensures;
-    sound_before = search rules;
-    served = c.serve_into.ensures.served;
-    sound_after = search rules;
-  };
-  settled = c.serve_into.ensures.settled;
+  found = c.deref_mut-locked.result.now;
+  left = c.serve_into.new.locked;
+  sizes_are = ap (λ (l : KnownLocked). l.sizes) c.deref_mut-locked.ensures.value ∙ c.lock-guard.ensures;
+  sound_before = search rules;
+  served = c.serve_into.ensures.replies;
+  sound_after = search rules;
 }

@@ -1,8 +1,8 @@
--- Serves `alloc_pinned`: the visit serves the path of the group that was found, and the CPU may still have one more pin.
-use Rattle.std.proofs.Common.{rules, ◌≡◌, ◌∙◌, Some, ap, sym, refl}
-use Rattle.group_tree.specs.Groups.{path_of}
-use Rattle.group_charge.specs.Charges.{Ledger}
-use Rattle.mem_system.specs.{locked_state}
+-- Serves `alloc_pinned`: the visit serves the group that was found, and the CPU may still have one more pin.
+use Rattle.std.proofs.Common.{rules, ℕ, ap, refl, subst}
+use Rattle.mem_system.specs.declared.command.LockedCommand.TheVariants.{Alloc}
+use Rattle.mem_system.specs.declared.outcome.Outcome.TheVariants.{Frame}
+use Rattle.mem_system.specs.{IsServed, locked_state}
 use Rattle.mem_system.proofs.Dirtying.{given_inside}
 use Rattle.zone_threads.specs.Homes.{KnownBehind}
 use Rattle.zone_threads.specs.Calling.{MissesPin}
@@ -12,41 +12,39 @@ use Rattle.zone_threads.proofs.behind.Behind.alloc_pinned.Goals as goal
 pub returns-in_default-outcome-clause-allocates : goal.returns-in_default-outcome-clause-allocates
 returns-in_default-outcome-clause-allocates g c =
     let done = c.serve_outcome-outcome in
-    let groups : c.self.inside.locked.machine.ledger.groups ≡ c.tree.result.now = ap (λ (l : Ledger). l.groups) (sym c.charges-2.ensures) ∙ sym c.tree.ensures.tree in
-    let named : path_of c.self.inside.locked.machine.ledger.groups c.args.group ≡ Some c.as_bytes-path.result.now
-    = (λ i. path_of (groups i) (sym c.in-Some.ensures.found.0 i)) ∙ c.path_of.ensures.value ∙ ap Some (sym c.as_bytes-path.ensures.text) in record {
+    record {
       found = c.self.inside.locked;
       left = done.new.locked;
       sizes_are = ap (λ (b : KnownBehind). b.locked.sizes) c.self.view_is;
       sound_before = record { quiet = c.prove_quiet.ensures.quiet; consistent = c.prove_quiet.ensures.consistent; charges = c.prove_quiet.ensures.charges };
-      served = refusal_served _ _ _ _ _ _ c.in_default-outcome.not-Frame (record { path = c.as_bytes-path.result; path_is = named; serves = done.ensures.served });
+      served = refusal_served _ _ _ _ _ _ c.in_default-outcome.not-Frame (subst (λ (k : ℕ). IsServed g.N.BootName.table (Alloc k c.args.order) done.result (locked_state c.self.inside.locked c.args.cpu.now) (locked_state done.new.locked done.new.cpu))
+          c.in-Some.ensures.found.0 done.ensures.served);
       sound_after = record { quiet = c.prove_quiet-2.ensures.quiet; consistent = c.prove_quiet-2.ensures.consistent; charges = c.prove_quiet-2.ensures.charges };
     }
 
 pub pin-requires-clause-room : goal.pin-requires-clause-room
 pin-requires-clause-room g c =
-    room_left g.N.BootName.table c.as_bytes-path.result c.args.order c.in-Frame.frame (locked_state c.self.inside.locked c.args.cpu.now)
+    room_left g.N.BootName.table c.in-Some.group c.args.order c.in-Frame.frame (locked_state c.self.inside.locked c.args.cpu.now)
     (locked_state c.serve_outcome-outcome.new.locked c.serve_outcome-outcome.new.cpu) c.requires.1.0 c.in-Frame.ensures.served c.in-Frame.ensures.settled.1 c.requires.0
 
 pub pin-requires-clause-frame : goal.pin-requires-clause-frame
 pin-requires-clause-frame g c =
-    given_inside g.N.BootName.table c.as_bytes-path.result c.in-Frame.frame (locked_state c.self.inside.locked c.args.cpu.now)
+    given_inside g.N.BootName.table c.in-Some.group c.in-Frame.frame (locked_state c.self.inside.locked c.args.cpu.now)
     (locked_state c.serve_outcome-outcome.new.locked c.serve_outcome-outcome.new.cpu) c.args.order c.in-Frame.ensures.served c.in-Frame.ensures.settled.0
     c.prove_quiet-2.ensures.consistent
 
 pub returns-then-pin-clause-allocates : goal.returns-then-pin-clause-allocates
 returns-then-pin-clause-allocates g c =
     let done = c.serve_outcome-outcome in
-    let groups : c.self.inside.locked.machine.ledger.groups ≡ c.tree.result.now = ap (λ (l : Ledger). l.groups) (sym c.charges-2.ensures) ∙ sym c.tree.ensures.tree in
-    let named : path_of c.self.inside.locked.machine.ledger.groups c.args.group ≡ Some c.as_bytes-path.result.now
-    = (λ i. path_of (groups i) (sym c.in-Some.ensures.found.0 i)) ∙ c.path_of.ensures.value ∙ ap Some (sym c.as_bytes-path.ensures.text) in record {
+    record {
       found = c.self.inside.locked;
       left = done.new.locked;
       sizes_are = ap (λ (b : KnownBehind). b.locked.sizes) c.self.view_is;
       sound_before = record { quiet = c.prove_quiet.ensures.quiet; consistent = c.prove_quiet.ensures.consistent; charges = c.prove_quiet.ensures.charges };
       served = record {
         between = locked_state done.new.locked done.new.cpu;
-        allocates = record { path = c.as_bytes-path.result; path_is = named; serves = c.in-Frame.ensures.served };
+        allocates = subst (λ (k : ℕ). IsServed g.N.BootName.table (Alloc k c.args.order) (Frame c.in-Frame.frame) (locked_state c.self.inside.locked c.args.cpu.now) (locked_state done.new.locked done.new.cpu))
+            c.in-Some.ensures.found.0 c.in-Frame.ensures.served;
         lock_kept = refl;
         asks = search rules;
       };
@@ -55,7 +53,7 @@ returns-then-pin-clause-allocates g c =
 
 pub serve_outcome-released-requires : goal.serve_outcome-released-requires
 serve_outcome-released-requires g c =
-    given_inside g.N.BootName.table c.as_bytes-path.result c.in-Frame.frame (locked_state c.self.inside.locked c.args.cpu.now)
+    given_inside g.N.BootName.table c.in-Some.group c.in-Frame.frame (locked_state c.self.inside.locked c.args.cpu.now)
     (locked_state c.serve_outcome-outcome.new.locked c.serve_outcome-outcome.new.cpu) c.args.order c.in-Frame.ensures.served c.in-Frame.ensures.settled.0
     c.prove_quiet-2.ensures.consistent
 
@@ -64,9 +62,7 @@ returns-clause-allocates g c =
     let done = c.serve_outcome-outcome in
     let missed = locked_state done.new.locked c.pin.new.cpu in
     let asks : MissesPin g.N.BootName.table c.in-Frame.frame done.new.cpu c.pin.new.cpu = search rules in
-    let groups : c.self.inside.locked.machine.ledger.groups ≡ c.tree.result.now = ap (λ (l : Ledger). l.groups) (sym c.charges-2.ensures) ∙ sym c.tree.ensures.tree in
-    let named : path_of c.self.inside.locked.machine.ledger.groups c.args.group ≡ Some c.as_bytes-path.result.now
-    = (λ i. path_of (groups i) (sym c.in-Some.ensures.found.0 i)) ∙ c.path_of.ensures.value ∙ ap Some (sym c.as_bytes-path.ensures.text) in record {
+    record {
       found = c.self.inside.locked;
       left = c.serve_outcome-released.new.locked;
       sizes_are = ap (λ (b : KnownBehind). b.locked.sizes) c.self.view_is;
@@ -77,7 +73,8 @@ returns-clause-allocates g c =
         outcome = c.serve_outcome-released.result;
         allocates = record {
           between = locked_state done.new.locked done.new.cpu;
-          allocates = record { path = c.as_bytes-path.result; path_is = named; serves = c.in-Frame.ensures.served };
+          allocates = subst (λ (k : ℕ). IsServed g.N.BootName.table (Alloc k c.args.order) (Frame c.in-Frame.frame) (locked_state c.self.inside.locked c.args.cpu.now) (locked_state done.new.locked done.new.cpu))
+              c.in-Some.ensures.found.0 c.in-Frame.ensures.served;
           lock_kept = refl;
           asks = asks;
         };

@@ -1,0 +1,128 @@
+//! What each group gives of the pages that a reclaim wants.
+
+ghost use Rattle.std.specs.Prelude.{◌≡◌, ◌*◌, ◌/◌, ◌%◌, ◌<◌, ◌≤◌, slice_index};
+ghost use Rattle.group_tree.specs.Bounds.{most_groups};
+ghost use Rattle.group_protection.specs.Shares.{groups_ahead, is_ahead, reclaim_share, sum_below};
+
+use group_tree::group::{GroupId, MAX_GROUPS};
+use std::marker::Model;
+
+/// The shares of a reclaim, in pages. Each group gives in proportion to what it may give, rounded down. The pages that
+/// then lack come from the groups with the greatest remainders, one each, and from the lower number among equals.
+#[derive(Debug, Drop)]
+pub struct Shares {
+    available: [u32; MAX_GROUPS],
+    want: u64,
+    // What all groups may give.
+    total: u64,
+    // What rounding down leaves of each group's part, by number. Kept because each share compares all of them.
+    remainders: [u64; MAX_GROUPS],
+    // How many groups give a page more than their part rounded down.
+    lacking: u64,
+}
+
+impl Model for Shares {
+    ghost use Rattle.std.specs.Prelude.{◌≡◌, ℕ, ◌<◌, slice_index};
+    ghost use Rattle.group_tree.specs.Bounds.{most_groups};
+    ghost use Rattle.group_protection.specs.Shares.{Sharing, pages_lacking, remainder, sum_below};
+
+    ghost Value = { Sharing };
+
+    ghost view = { λ s. record { available = s.available; want = s.want } };
+
+    ghost invariant = { λ s.
+        (s.total ≡ sum_below most_groups (slice_index s.available))
+        × ((group : ℕ) → group < most_groups
+        → slice_index s.remainders group ≡ remainder most_groups (slice_index s.available) s.want group)
+        × (s.lacking ≡ pages_lacking most_groups (slice_index s.available) s.want) };
+}
+
+// What all groups may give.
+fn total_of(available: &[u32; MAX_GROUPS]) -> u64
+    ensures { result ≡ sum_below most_groups (slice_index available.now) }
+{
+    let mut sum = 0;
+    for pages in available {
+        sum += u64::from(*pages);
+    }
+    sum
+}
+
+// A group's part of the pages that are shared out, rounded down.
+fn whole_part(shared: u64, available: u32, total: u64) -> u64
+    requires { shared ≤ total }
+    ensures part { result ≡ shared * available / total }
+    ensures at_most { result ≤ available }
+{
+    if total == 0 {
+        return 0;
+    }
+    (u128::from(shared) * u128::from(available) / u128::from(total)) as u64
+}
+
+// What rounding down leaves of that part.
+fn remainder(shared: u64, available: u32, total: u64) -> u64
+    requires { shared ≤ total }
+    ensures { result ≡ shared * available % total }
+{
+    if total == 0 {
+        return 0;
+    }
+    (u128::from(shared) * u128::from(available) % u128::from(total)) as u64
+}
+
+impl Shares {
+    /// The shares if the group of each number may give `available` pages, and `want` pages are wanted of all together.
+    pub fn new(available: [u32; MAX_GROUPS], want: u64) -> Shares
+        ensures available { result.available ≡ available }
+        ensures want { result.want ≡ want }
+    {
+        let total = total_of(&available);
+        let shared = want.min(total);
+        let mut remainders = [0; MAX_GROUPS];
+        let mut given = 0;
+        for number in 0..MAX_GROUPS {
+            given += whole_part(shared, available[number], total);
+            remainders[number] = remainder(shared, available[number], total);
+        }
+        Shares {
+            available,
+            want,
+            total,
+            remainders,
+            lacking: shared - given,
+        }
+    }
+
+    // Whether the other group gives a page that lacks before this group does.
+    fn is_ahead(&self, other: usize, group: usize) -> bool
+        requires { (other < most_groups) × (group < most_groups) }
+        ensures { result ≡ is_ahead most_groups (slice_index self.now.available) self.now.want other group }
+    {
+        let theirs = self.remainders[other];
+        let own = self.remainders[group];
+        own < theirs || (theirs == own && other < group)
+    }
+
+    // How many groups do so.
+    fn groups_ahead(&self, group: usize) -> u64
+        requires { group < most_groups }
+        ensures { result ≡ groups_ahead most_groups (slice_index self.now.available) self.now.want group }
+    {
+        let mut ahead = 0;
+        for other in 0..MAX_GROUPS {
+            ahead += u64::from(self.is_ahead(other, group));
+        }
+        ahead
+    }
+
+    /// The share of the group, in pages. It is at most what the group may give.
+    pub fn share(&self, group: GroupId) -> u64
+        ensures { result ≡ reclaim_share most_groups (slice_index self.now.available) self.now.want group }
+    {
+        let number = group.number() as usize;
+        let shared = self.want.min(self.total);
+        let part = whole_part(shared, self.available[number], self.total);
+        part + u64::from(self.groups_ahead(number) < self.lacking)
+    }
+}

@@ -1,5 +1,0 @@
-use Rattle.std.proofs.Common.{rules}
-use Rattle.stock_word.proofs.stock.Stock.group.Goals as goal
-
-pub returns-in-HeldBy : goal.returns-in-HeldBy
-returns-in-HeldBy c = search rules
