@@ -92,7 +92,7 @@ tell_reason() {
             [[ $1 == "$word" ]] && sizes+=("$1" "${2-}")
             [[ $1 == "$word="* ]] && sizes+=("$1")
         done
-        [[ $1 == --no-kill || $1 == --fair ]] && sizes+=("$1")
+        [[ $1 == --no-kill || $1 == --proportional ]] && sizes+=("$1")
     done
     "$program" lint "${sizes[@]}" <"$script" 2>/dev/null |
         NAME=${file:--} LC_ALL=C awk '

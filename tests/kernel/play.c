@@ -1,6 +1,6 @@
 /* Plays a plan in cgroups of the running kernel, for tests/kernel/beside: in order, without waits.
 
-       play PLAN DEVICE [-a] [-s] LIMIT..
+       play PLAN DEVICE [-a] [-k] [-s] LIMIT..
 
    A plan's lines name groups by their place among the lines `group`, from 0 on. Amounts are bytes.
        group PATH [own]       a group; with `own` it has a process, and memory
@@ -14,7 +14,8 @@
        sample                 ends a sample
    For each limit (bytes or max) everything is played anew, until somebody dies, or with -a to the end. With -s and two
    limits, of which one kills and one doesn't, limits between are played, down to 16 pages. Each run writes a line of JSON:
-   who died at which sample, and of each group what memory.peak, memory.events and memory.stat have at the end. */
+   who died at which sample, and of each group what memory.peak, memory.events and memory.stat have at the end; with -k
+   also the kernel memory that can't be reclaimed, after each sample. */
 #define _GNU_SOURCE
 #include <errno.h>
 #include <fcntl.h>
@@ -28,17 +29,17 @@
 #include <sys/wait.h>
 #include <unistd.h>
 
-enum { PAGE = 4096, MOST_GROUPS = 16, MOST_ORDERS = 4096, LEAST_STEP = 16 * PAGE };
+enum { PAGE = 4096, MOST_GROUPS = 16, MOST_ORDERS = 4096, MOST_SAMPLES = 64, LEAST_STEP = 16 * PAGE };
 #define ROOT "/sys/fs/cgroup/played"
 #define SPACE (512L << 20) /* what a process may have of each kind; its part of the device begins at its number times that */
 
 struct order { char what[8], file[16]; int group; long anon, amount; char value[24]; };
 struct answer { int pid; long resident; };
-struct group { char path[256]; int is_own, to, from, pid, died_at; };
+struct group { char path[256]; int is_own, to, from, pid, died_at; long kernel[MOST_SAMPLES]; };
 
 static struct order orders[MOST_ORDERS];
 static struct group groups[MOST_GROUPS];
-static int order_count, group_count, limited, flagged = -1, device, goes_on;
+static int order_count, group_count, limited, flagged = -1, device, goes_on, keeps_kernel;
 static char text[16384];
 
 static void fail(const char *what) {
@@ -196,7 +197,13 @@ static void clear_up(void) {
         for (int i = 0; rmdir(name_of(g, "")) && i < 1000; i++) usleep(1000);
 }
 
-static void report(const char *limit, long stays) {
+/* The memory that no reclaim of the group frees. */
+static long kernel_of(int g) {
+    read_file(g, "memory.stat");
+    return value_of("kernel") - value_of("slab_reclaimable");
+}
+
+static void report(const char *limit, long stays, int samples) {
     static const char *const keys[] = {"low", "high", "max", "oom", "oom_kill"};
     printf("{\"limit\": \"%s\", \"stays\": %ld, \"groups\": {", limit, stays);
     for (int g = 0; g < group_count; g++) {
@@ -205,7 +212,9 @@ static void report(const char *limit, long stays) {
         printf(", \"peak\": %ld", atol(read_file(g, "memory.peak")));
         read_file(g, "memory.events");
         for (size_t k = 0; k < sizeof keys / sizeof keys[0]; k++) printf(", \"%s\": %ld", keys[k], value_of(keys[k]));
-        printf("}");
+        if (keeps_kernel)
+            for (int at = 0; at < samples; at++) printf("%s%ld", at ? ", " : ", \"kernel\": [", groups[g].kernel[at]);
+        printf(keeps_kernel ? "]}" : "}");
     }
     printf("}}\n");
     fflush(stdout);
@@ -223,14 +232,17 @@ static int run(const char *limit) {
         else {
             read_file(limited, "memory.events");
             if (value_of("oom_kill") > kills) kills = value_of("oom_kill"), bury(sample, 1000);
-            read_file(limited, "memory.stat");
-            long stays = value_of("anon") + value_of("kernel") - value_of("slab_reclaimable");
+            long stays = kernel_of(limited) + value_of("anon");
             most_stays = stays > most_stays ? stays : most_stays;
-            for (int g = 0; g < group_count; g++) died |= groups[g].died_at >= 0;
+            if (sample == MOST_SAMPLES) fail("too many samples");
+            for (int g = 0; g < group_count; g++) {
+                died |= groups[g].died_at >= 0;
+                if (keeps_kernel) groups[g].kernel[sample] = kernel_of(g);
+            }
             sample++;
         }
     }
-    report(limit, most_stays);
+    report(limit, most_stays, sample);
     clear_up();
     return died;
 }
@@ -259,13 +271,14 @@ static void read_plan(const char *name) {
 int main(int count, char **words) {
     int at = 3, searches = 0;
     long dies = 0, lives = 0;
-    if (count < 4) return fprintf(stderr, "play PLAN DEVICE [-a] [-s] LIMIT..\n"), 2;
+    if (count < 4) return fprintf(stderr, "play PLAN DEVICE [-a] [-k] [-s] LIMIT..\n"), 2;
     read_plan(words[1]);
     device = open(words[2], O_RDONLY | O_CLOEXEC);
     if (device < 0) fail(words[2]);
     signal(SIGPIPE, SIG_IGN);
     prctl(PR_SET_CHILD_SUBREAPER, 1);
-    for (; at < count && words[at][0] == '-'; at++) goes_on |= words[at][1] == 'a', searches |= words[at][1] == 's';
+    for (; at < count && words[at][0] == '-'; at++)
+        goes_on |= words[at][1] == 'a', keeps_kernel |= words[at][1] == 'k', searches |= words[at][1] == 's';
     for (; at < count && !(searches && lives); at++) *(run(words[at]) ? &dies : &lives) = atol(words[at]);
     while (searches && dies && lives - dies > LEAST_STEP) {
         char limit[24];

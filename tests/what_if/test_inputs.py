@@ -10,7 +10,7 @@ from what_if.amounts import Fault, amount_text, read_amount
 from what_if.joining import join
 from what_if.prepare import filled, keep_greatest, not_cumulative
 from what_if.series import Series, read_number, read_time
-from what_if.usage import NONE, Track, frame_size, in_frames, least_limit, usage_of
+from what_if.usage import NONE, Track, frame_size, in_frames, least_limit, usage_of, with_kernel
 from what_if.usage_csv import read_rows, usage_lines
 
 MIB = 1 << 20
@@ -18,7 +18,8 @@ MIB = 1 << 20
 
 def usage(rows_text, host=1 << 30):
     """The usage of rows `seconds,group,anon,file,max[,..]`."""
-    header = {5: "seconds,group,anon,file,max", 7: "seconds,group,anon,file,max,oom_kill,peak"}
+    header = {5: "seconds,group,anon,file,max", 6: "seconds,group,anon,file,max,kernel",
+              7: "seconds,group,anon,file,max,oom_kill,peak"}
     lines = rows_text.split()
     reading = read_rows([header[len(lines[0].split(","))], *lines], "usage.csv", str)
     return usage_of(reading.times, reading.tracks, host)
@@ -174,6 +175,19 @@ class Prepared(unittest.TestCase):
         self.assertEqual((made.merged["/p"], [*made.tracks["/p"].anon]), (["/p/a", "/p/b"], [130, 30, 80]))
         self.assertIn("/p/b limit 40 B", notes[0])
 
+    def test_kernel_memory(self):
+        """It is filled, parted and written like other amounts, and counts as anonymous where the last value holds."""
+        made = usage("0,/p,100,50,max,30 0,/p/a,40,10,max,20 9,/p,100,50,max, 9,/p/a,40,10,max,25")
+        self.assertEqual([line.split(",")[-1] for line in usage_lines(made)], ["kernel", "", "30", "20", "", "", "25"])
+        own = with_kernel(not_cumulative(made, None)).tracks
+        self.assertEqual(([*own["/p"].anon], [*own["/p/a"].anon]), ([70, 70], [60, 65]))
+        self.assertEqual((own["/p"].most_kernel, own["/p/a"].most_kernel, own["/"].most_kernel), (10, 25, None))
+
+    def test_kernel_memory_of_a_whole_usage_is_in_it(self):
+        for kind, kernel in (("rss", [5]), ("usage", [])):
+            made = join([series(kind, [(0, 100)], path="/a"), series("kernel", [(0, 5)], path="/a")], None)
+            self.assertEqual(([*made.tracks["/a"].anon], [*made.tracks["/a"].kernel]), ([100], kernel))
+
     def test_order_is_that_of_the_record(self):
         self.assertEqual(usage("0,/z/a,1,0,max 0,/b,1,0,max").groups, ["/", "/z", "/z/a", "/b"])
 
@@ -184,7 +198,15 @@ class Prepared(unittest.TestCase):
         made = usage("0,/a,4097,1,8191")
         self.assertEqual(least_limit(made), 8191)
         track = in_frames(made, 4096).tracks["/a"]
-        self.assertEqual((track.anon[0], track.file[0], track.setting("max", 0)), (2, 1, 1))
+        self.assertEqual((track.anon[0], track.file[0], track.setting("max", 0)), (2, 0, 1))
+
+    def test_a_finer_frame_changes_a_group_by_less_than_a_frame(self):
+        made = usage("0,/a,5000,5000,max 1,/a,100,9000,max 2,/a,8192,1,max")
+        for size in (1024, 2048, 4096):
+            track = in_frames(made, size).tracks["/a"]
+            for at, whole in enumerate((10_000, 9100, 8193)):
+                self.assertIn(size * track.total(at) - whole, range(size))
+                self.assertIn(size * track.anon[at] - made.tracks["/a"].anon[at], range(size))
 
     def test_hole(self):
         made = usage_of(array("d", [0, 30, 60, 3660, 3690]), {"/a": Track(array("q", [1] * 5), array("q", [1] * 5))}, None)

@@ -10,7 +10,7 @@ from what_if.amounts import Fault
 from what_if.fleet import kept_text
 from what_if.lives import Life, Restart, start_before, starts_of
 from what_if.least import bisect, needed
-from what_if.least_report import with_margin
+from what_if.margins import for_linux, read_margin, with_percent
 from what_if.packing import packed
 from what_if.patches import need_of
 from what_if.replay import How, Replay
@@ -195,7 +195,17 @@ class Formulas(unittest.TestCase):
         self.assertEqual(bisect(-1, 100, lambda amount: amount >= 37), 37)
 
     def test_margin_is_of_whole_pages(self):
-        self.assertEqual(with_margin({"/a": 3}, 4096, 10), {"/a": 4 * 4096})
+        self.assertEqual(with_percent({"/a": 3}, 4096, 10), {"/a": 4 * 4096})
+
+    def test_margin_for_linux(self):
+        """224 KiB a process, 0.3 % of the limit and 0.6 % of the greatest file pages; 128 KiB and 0.3 % of the file pages if
+        kernel memory is known."""
+        made = usage(**{"p/a": track([5], [1000], pids=3), "p/b": track([5], [1000]), "q": track([9], [2000], most_kernel=4096)})
+        self.assertEqual(for_linux(made, 4096, "/p", 1000), 4096 * (1000 + 4 * 56 + 3 + 12))
+        self.assertEqual(for_linux(made, 4096, "/q", 9), 4096 * (9 + 32 + 6))
+        self.assertEqual((read_margin("linux"), read_margin("2.5")), ("linux", 2.5))
+        for word in ("-1", "nan", "kernel"):
+            self.assertRaises(Fault, read_margin, word)
 
     def test_packed(self):
         one, other = usage(a=track([1, 2, 3])), usage(step=2, a=track([10, 20]))

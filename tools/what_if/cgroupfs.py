@@ -10,7 +10,7 @@ from .amounts import Fault, Note
 from .files import open_text
 from .series import MAX, SETTINGS, Series, read_time
 
-LINE = re.compile(r"(.*)/(memory\.[\w.]+):(?:(\w+) )?(\w+)$")
+LINE = re.compile(r"(.*)/((?:memory|pids)\.[\w.]+):(?:(\w+) )?(\w+)$")
 OF_SYSTEMD = re.compile(r"(\w+)=(.*)$")
 
 
@@ -41,11 +41,15 @@ def sizes_of(files: Files) -> Dict[str, int]:
     """The kinds of sizes of a group, with all below it. Version 1 sums them under names of its own."""
     stat = {key: int(word) for key, word in files.stat.items() if word.isdigit()}
     if "total_rss" in stat:
-        return {"rss": stat["total_rss"], "cache": stat.get("total_cache", 0), "shmem": stat.get("total_shmem", 0)}
-    if "anon" in stat:
-        return {"rss": stat["anon"], "cache": stat.get("file", 0), "shmem": stat.get("shmem", 0)}
-    current = files.number("memory.current", "memory.usage_in_bytes")
-    return {} if current is None else {"usage": current}
+        sizes = {"rss": stat["total_rss"], "cache": stat.get("total_cache", 0), "shmem": stat.get("total_shmem", 0)}
+        kernel = files.number("memory.kmem.usage_in_bytes")
+    elif "anon" in stat:
+        sizes = {"rss": stat["anon"], "cache": stat.get("file", 0), "shmem": stat.get("shmem", 0)}
+        kernel = max(0, stat["kernel"] - stat.get("slab_reclaimable", 0)) if "kernel" in stat else None
+    else:
+        current = files.number("memory.current", "memory.usage_in_bytes")
+        return {} if current is None else {"usage": current}
+    return sizes if kernel is None else {**sizes, "kernel": kernel}
 
 
 def kinds_of(files: Files) -> Dict[str, int]:
@@ -59,9 +63,10 @@ def kinds_of(files: Files) -> Dict[str, int]:
     kinds.update((kind, MAX) for kind, word in words.items() if word == "max")
     if files.events.get("oom_kill", "").isdigit():
         kinds["oom_kill"] = int(files.events["oom_kill"])
-    peak = files.number("memory.peak", "memory.max_usage_in_bytes")
-    if peak is not None:
-        kinds["peak"] = peak
+    for kind, names in (("peak", ("memory.peak", "memory.max_usage_in_bytes")), ("pids", ("pids.current",))):
+        number = files.number(*names)
+        if number is not None:
+            kinds[kind] = number
     return kinds
 
 

@@ -11,6 +11,7 @@ from . import fleet, importing, kubernetes, least, least_min, least_report, load
 from . import report, systemd, tight
 from .amounts import Fault, names_text, read_amount
 from .choices import words_of
+from .margins import LINUX, linux_line
 from .options import parsed, restart_of
 from .replay import How, played
 from .session import find_program
@@ -31,11 +32,11 @@ class Call:
         """A line for standard error. A fault's line comes alone."""
         self.remarks.append(line)
 
-    def how(self, flags: Iterable[str] = ()) -> How:
+    def how(self, it: report.Played, flags: Iterable[str] = ()) -> How:
         """How a usage is played."""
         options = self.options
         restart = restart_of(options) if "restart" in options else None
-        return How(options.memcg or find_program(self.folders), words_of(options), frozenset(flags),
+        return How(options.memcg or find_program(self.folders), words_of(options, it.size), frozenset(flags),
                    getattr(options, "reread", False), restart)
 
     def jobs(self) -> int:
@@ -56,7 +57,8 @@ def write_lines(lines: Iterable[str]) -> None:
 def run(call: Call) -> int:
     """Plays a usage, and writes its report or its log."""
     loaded = loading.load(call.options, call.note)
-    it, how = loading.in_zone(loaded, call.remarks), call.how(loaded.flags)
+    it = loading.in_zone(loaded, call.remarks)
+    how = call.how(it, loaded.flags)
     if call.options.log:
         write_lines(log.lines(it.usage, how, it.size, call.note))
         return 0
@@ -75,8 +77,10 @@ def check_least(options: argparse.Namespace) -> None:
                     "--kills or --format")
     if options.keep_file is not None and not 0 <= options.keep_file <= 100:
         raise Fault("--keep-file is 0 to 100")
-    if not 0 <= options.margin < float("inf"):
-        raise Fault("--margin is 0 or more")
+    if options.margin is None:
+        options.margin = LINUX if options.format else 0.0
+    if options.min_for is not None and options.margin == LINUX:
+        raise Fault("--margin linux is for limits, and --min-for finds a memory.min")
     if options.min_for is None and (options.kills is None) != (restart_of(options) is None):
         raise Fault("--kills and --restart go together: if the dead stayed dead, too few would be killed")
     if options.kills is not None and (options.kills < 0 or options.keep_file is not None):
@@ -97,7 +101,7 @@ def find_least_min(call: Call) -> int:
     kept = {path for values in limits.given.values() for path in values} | limits.flags | {options.min_for}
     it = loading.in_zone(loading.with_top(loaded, kept, "settings, or have been named by --min-for"), call.remarks)
     sought = least_min.Sought(options.min_for, options.keep_file or 0)
-    found = least_min.find(it.usage, call.how(loaded.flags), sought)
+    found = least_min.find(it.usage, call.how(it, loaded.flags), sought)
     write_lines([least_min.json_line(it, found, sought, options.margin)] if options.json else
                 least_min.lines(it, found, sought, options.margin))
     return 0
@@ -116,12 +120,14 @@ def find_least(call: Call) -> int:
     it = loading.in_zone(loaded, call.remarks)
     it = replace(it, usage=without_limits(it.usage))
     groups = options.group or [path for path in it.usage.groups if path != "/"]
-    sought, how = least.Sought(options.keep_file, options.kills, options.per), call.how()
+    sought, how = least.Sought(options.keep_file, options.kills, options.per), call.how(it)
     if it.usage.merged and options.kills is not None:
         call.note(f"of {names_text([*it.usage.merged])} merged groups would die one by one, so the kills aren't those of them")
     found = least.find(it.usage, how, groups, sought, call.jobs())
     limits = least_report.in_bytes(it, found.limits, options.margin)
     if options.format:
+        for line in linux_line(it.usage) if options.margin == LINUX else ():
+            call.note(line)
         write_lines(patches.patch_lines(limits, options.pods) if options.format == "k8s" else systemd.drop_in_lines(limits))
         return 0
     answer = least_report.Answer(it, found, limits, options.margin)
@@ -132,7 +138,8 @@ def find_least(call: Call) -> int:
 def find_tight(call: Call) -> int:
     """Writes the margins of all groups that have a limit."""
     loaded = loading.load(call.options, call.note)
-    it, how = loading.in_zone(loaded, call.remarks), call.how(loaded.flags)
+    it = loading.in_zone(loaded, call.remarks)
+    how = call.how(it, loaded.flags)
     limits = tight.limits_today(it.usage)
     if not limits:
         raise Fault(f"{call.options.usage}: no group has a limit: --limits limits.txt gives some")
@@ -157,7 +164,8 @@ def pack(call: Call) -> int:
     usage = packing.packed(records, read_amount(options.host) if options.host else hosts[0])
     limits = loading.read_given(options, usage.groups, call.note)
     loaded = loading.Loading(options, " + ".join(options.usages), with_settings(usage, limits.given), call.note, limits.flags)
-    it, how = loading.in_zone(loaded, call.remarks), call.how(loaded.flags)
+    it = loading.in_zone(loaded, call.remarks)
+    how = call.how(it, loaded.flags)
     replay = played(it.usage, how)
     alone = [least.needed(in_frames(one, it.size))["/"] for _, one in records]
     found = packing.least_host(it.usage, how)

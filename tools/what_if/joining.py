@@ -8,7 +8,7 @@ from typing import Dict, Iterator, List, Optional
 
 from .amounts import Fault, Note, names_text, seconds_text
 from .series import COUNTED, MAX, SETTINGS, Series, by_group
-from .usage import NONE, Track, Usage, usage_of
+from .usage import NONE, Track, Usage, empty_track, usage_of
 
 # A kind's gap is worth a line if it is longer than so many usual steps.
 STEPS = 5
@@ -63,15 +63,20 @@ class Joining:
         sizes = {kind: one for kind, one in kinds.items() if kind not in SETTINGS and kind not in COUNTED}
         if not sizes:
             return
-        if [*sizes] == ["working_set"]:
+        if {*sizes} - {"kernel"} == {"working_set"}:
             self.of_set_alone.append(path)
         own = times_of(list(sizes.values()))
         values = {kind: self.filled(path, one, own) for kind, one in sizes.items()}
         places = {time: at for at, time in enumerate(self.times)}
-        track = Track(array("q", [NONE]) * len(self.times), array("q", [NONE]) * len(self.times))
+        track = empty_track(len(self.times))
+        # Of a whole usage kernel memory is a part already.
+        if "kernel" in sizes and "rss" in sizes:
+            track.kernel = array("q", [NONE]) * len(self.times)
         for at, time in enumerate(own):
             here = {kind: amounts[at] for kind, amounts in values.items() if amounts[at] != NONE}
             track.anon[places[time]], track.file[places[time]] = amount(here)
+            if track.kernel and "rss" in here:
+                track.kernel[places[time]] = here.get("kernel", NONE)
         first, last = places[own[0]], places[own[-1]]
         for kind, name in SETTINGS.items():
             for time, value in points(kinds.get(kind)):
@@ -94,7 +99,8 @@ class Joining:
             if before is not None and (value > before or 0 < value < before):
                 track.oom_kills.append(min(last, max(first, self.place(time))))
             before = value
-        track.peak = max((value for _, value in points(kinds.get("peak"))), default=None)
+        track.peak, track.pids = (max((value for _, value in points(kinds.get(kind))), default=None)
+                                  for kind in ("peak", "pids"))
 
     def filled(self, path: str, one: Series, times: "array[float]") -> "array[int]":
         """The values of a kind at these times: the last one holds. Before its first there is none."""

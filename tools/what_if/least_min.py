@@ -8,7 +8,7 @@ from typing import Dict, Iterator, List, Optional
 
 from .amounts import amount_text, path_text
 from .least import bisect, reclaimed_share
-from .least_report import with_margin
+from .margins import with_percent
 from .orders import reversed_usage
 from .paths import by_tree, is_below, path_up
 from .replay import How, Replay, always, played
@@ -97,7 +97,7 @@ def reasons(found: Found, sought: Sought, it: Played) -> List[str]:
 
 def in_bytes(found: Found, it: Played, margin: float) -> Dict[str, Optional[int]]:
     """The memory.min of the groups in bytes, the highest first."""
-    amounts = with_margin({path: frames for path, frames in found.mins.items() if frames is not None}, it.size, margin)
+    amounts = with_percent({path: frames for path, frames in found.mins.items() if frames is not None}, it.size, margin)
     return {path: amounts.get(path) for path in sorted(found.mins)}
 
 

@@ -11,7 +11,7 @@ from .limits import Limits, read_limits, skipped_line, unknown_group
 from .lives import with_starts
 from .paths import MOST_GROUPS
 from .report import Played
-from .usage import MOST_FRAMES, Usage, frame_size, in_frames, least_limit, with_settings
+from .usage import MOST_FRAMES, Usage, frame_size, in_frames, least_limit, with_kernel, with_settings
 from .usage_csv import check_count, read_usage
 
 
@@ -31,7 +31,7 @@ def recorded(options: argparse.Namespace, path: str, note: Note) -> Usage:
     for remark in usage.remarks:
         note(f"{path}: {remark}")
     usage = prepare.filled(usage, options.gap, note, "; with --gap 0 it has nothing then")
-    return prepare.not_cumulative(usage, note) if options.cumulative else usage
+    return with_kernel(prepare.not_cumulative(usage, note) if options.cumulative else usage)
 
 
 def read_given(options: argparse.Namespace, groups: List[str], note: Note) -> Limits:

@@ -9,6 +9,7 @@ from typing import Any, Callable, Dict, List, NoReturn, Optional, Sequence, Type
 from . import VERSION, choices, importing, record
 from .amounts import Fault
 from .lives import Restart
+from .margins import read_margin
 from .session import find_program
 
 ABOUT = {"record": "record the usage of groups or processes", "import": "make a usage of what other tools recorded",
@@ -123,7 +124,8 @@ def add_least(parser: argparse.ArgumentParser) -> None:
                         help="the limits reclaim at most PERCENT of a group's file pages")
     parser.add_argument("--kills", metavar="N", type=int, help="each limit kills at most N times; with --restart or --backoff")
     parser.add_argument("--per", metavar="S", type=read_seconds, help="N kills in each S seconds, hour or day")
-    parser.add_argument("--margin", metavar="PERCENT", type=float, default=0.0, help="the limits are so much greater")
+    parser.add_argument("--margin", metavar="PERCENT", type=read_margin,
+                        help="the limits are so much greater; linux: by what Linux takes beyond the record (with --format)")
     parser.add_argument("--pods", metavar="pods.json", help="for --format k8s: what each change needs, by the JSON of pods")
     output = parser.add_mutually_exclusive_group()
     add_json(output)  # type: ignore[arg-type]

@@ -38,10 +38,10 @@ def filled(usage: Usage, longest: Optional[float], note: Note, remark: str = "")
             continue
         if tracks[gap.path] is usage.tracks[gap.path]:
             old = tracks[gap.path]
-            tracks[gap.path] = replace(old, anon=old.anon[:], file=old.file[:])
-        track = tracks[gap.path]
-        for at in range(gap.first, end):
-            track.anon[at], track.file[at] = track.anon[before], track.file[before]
+            tracks[gap.path] = copied(old)
+        for amounts in tracks[gap.path].kinds():
+            for at in range(gap.first, end):
+                amounts[at] = amounts[before]
         count += end - gap.first
         filled_gaps.append(gap)
     if filled_gaps:
@@ -54,21 +54,27 @@ def filled(usage: Usage, longest: Optional[float], note: Note, remark: str = "")
     return replace(usage, tracks=tracks)
 
 
+def copied(track: Track) -> Track:
+    """A track whose amounts may be changed."""
+    return replace(track, anon=track.anon[:], file=track.file[:], kernel=track.kernel[:])
+
+
 def not_cumulative(usage: Usage, note: Note) -> Usage:
     """The same, if a row counts all below it: what each group has of its own."""
-    tracks = {path: replace(track, anon=track.anon[:], file=track.file[:]) for path, track in usage.tracks.items()}
+    tracks = {path: copied(track) for path, track in usage.tracks.items()}
     negative: List[str] = []
     for at in range(len(usage.times)):
         for path, track in usage.tracks.items():
             if track.anon[at] != NONE and path != "/":
                 above = next((each for each in path_up(path) if each != path and usage.tracks[each].anon[at] != NONE), None)
                 if above is not None:
-                    tracks[above].anon[at] -= track.anon[at]
-                    tracks[above].file[at] -= track.file[at]
+                    for was, whole, part in zip(usage.tracks[above].kinds(), tracks[above].kinds(), track.kinds()):
+                        whole[at] -= max(0, part[at]) if was[at] != NONE else 0
         for path, track in tracks.items():
-            if usage.tracks[path].anon[at] != NONE and (track.anon[at] < 0 or track.file[at] < 0):
-                negative += [path] if path != "/" else []
-                track.anon[at], track.file[at] = max(0, track.anon[at]), max(0, track.file[at])
+            short = [own for was, own in zip(usage.tracks[path].kinds(), track.kinds()) if was[at] != NONE and own[at] < 0]
+            negative += [path] if short and path != "/" else []
+            for own in short:
+                own[at] = 0
     if negative:
         names = [*dict.fromkeys(negative)]
         note(f"{names_text(names)}: in {len(negative)} rows less than the groups below have together, so its own part "
@@ -130,8 +136,10 @@ def with_added(track: Track, other: Track) -> Track:
     def both(own: "array[int]", more: "array[int]") -> "array[int]":
         return array("q", [two if one == NONE else one if two == NONE else one + two for one, two in zip(own, more)])
 
+    is_known = track.most_kernel is not None and other.most_kernel is not None
     return replace(track, anon=both(track.anon, other.anon), file=both(track.file, other.file),
-                   oom_kills=sorted({*track.oom_kills, *other.oom_kills}))
+                   oom_kills=sorted({*track.oom_kills, *other.oom_kills}), pids=(track.pids or 1) + (other.pids or 1),
+                   most_kernel=(track.most_kernel or 0) + (other.most_kernel or 0) if is_known else None)
 
 
 # Names

@@ -8,7 +8,7 @@ import os
 import re
 import signal
 import time
-from dataclasses import dataclass
+from dataclasses import dataclass, fields
 from typing import BinaryIO, Dict, Iterator, List, Optional, Set, Tuple, Union
 
 from .amounts import Fault, Note, amount_text
@@ -51,9 +51,16 @@ def check_folder(folder: str) -> None:
 
 @dataclass(frozen=True)
 class Pages:
-    """Bytes of anonymous memory and of files."""
+    """Bytes of anonymous memory, of files and of the kernel, and how many tasks there are."""
     anon: int
     file: int
+    kernel: int = 0
+    tasks: int = 0
+
+    def without(self, parts: List[Pages]) -> Pages:
+        """What is left without these."""
+        return Pages(*(max(0, getattr(self, kind.name) - sum(getattr(part, kind.name) for part in parts))
+                       for kind in fields(self)))
 
 
 class Groups:
@@ -68,6 +75,7 @@ class Groups:
         self.first_events: Dict[str, Dict[str, int]] = {}  # what memory.events of each group had when it was seen first
         self.last_events: Dict[str, Dict[str, int]] = {}
         self.most_other = 0
+        self.has_kernel = False
 
     def path_of(self, place: str, folder: str) -> str:
         """The path of a group: from the mount on, or from the name of the folder that was asked for."""
@@ -86,14 +94,17 @@ class Groups:
                     continue
                 # Without swap, shared memory stays as anonymous memory does. The kernel counts it among `file`.
                 anon, file, shared = (stat.get(key, 0) for key in ("anon", "file", "shmem"))
-                of_all = whole[place] = Pages(anon + shared, file - shared)
-                below = [whole[f"{place}/{name}"] for name in names if f"{place}/{name}" in whole]
-                own = [max(0, of_all.anon - sum(one.anon for one in below)),
-                       max(0, of_all.file - sum(one.file for one in below))]
-                rows[self.path_of(place, folder)] = [*map(str, own), *self.rest_of(place, folder)]
+                tasks = text_of(f"{place}/pids.current")
+                whole[place] = Pages(anon + shared, file - shared, stat.get("kernel", 0) - stat.get("slab_reclaimable", 0),
+                                     int(tasks or 0))
+                own = whole[place].without([whole[f"{place}/{name}"] for name in names if f"{place}/{name}" in whole])
+                rows[self.path_of(place, folder)] = [
+                    str(own.anon), str(own.file), *self.rest_of(place, folder),
+                    str(own.kernel) if "kernel" in stat else "", str(own.tasks) if tasks else ""]
+                self.has_kernel |= "kernel" in stat
             current = int(text_of(f"{folder}/memory.current") or 0)
             top = whole.get(folder, Pages(current, 0))
-            self.most_other = max(self.most_other, current - top.anon - top.file)
+            self.most_other = max(self.most_other, current - top.anon - top.file - max(0, top.kernel))
         return rows
 
     def rest_of(self, place: str, folder: str) -> Row:
@@ -109,8 +120,9 @@ class Groups:
     def remarks(self) -> Iterator[str]:
         """What the samples don't show."""
         if self.most_other > 0:
-            yield (f"at most {amount_text(self.most_other)} of memory.current was neither anon nor file, and isn't "
-                   "recorded")
+            yield f"at most {amount_text(self.most_other)} of memory.current is in none of anon, file and kernel"
+        if not self.has_kernel:
+            yield "memory.stat has no kernel, which Linux has from 5.18 on: so kernel memory isn't recorded"
         for path, first in sorted(self.first_events.items()):
             more = {key: self.last_events[path].get(key, 0) - first.get(key, 0) for key in ("low", "high", "max", "oom_kill")}
             if any(more.values()):

@@ -5,7 +5,7 @@ import json
 from dataclasses import dataclass, field
 from typing import Any, Dict, Iterator, List, Optional, Tuple
 
-from . import censored, orders
+from . import censored, margins, orders
 from .amounts import amount_text, limit_text, names_text, path_text, seconds_text
 from .paths import NODE, by_tree
 from .replay import Death, Group, Replay
@@ -196,11 +196,11 @@ def report(it: Played, replay: Replay, differs: Optional[orders.Difference]) -> 
     kinds = [kind for kind in OF_SETTINGS if kind == "max" or groups_with(it.usage, kind)]
     columns = [*COLUMNS[:3], *[name for kind in kinds for name in OF_SETTINGS[kind]], *COLUMNS[3:-1],
                *(["kills"] if is_restarted else []), COLUMNS[-1]]
-    yield it.head()
+    yield f"{it.head()}; choices: {' '.join(replay.how.choices) or 'none'}"
     yield ""
     yield from table([columns, *(group_row(it, replay.groups[path], wanted[path], deaths.get(path), kinds, is_restarted)
                                  for path in by_tree(replay.groups))])
-    yield from paragraph(it.hidden)
+    yield from paragraph([*it.hidden, *margins.kernel_line(it.usage)])
     yield from room_lines(it, replay)
     yield from death_lines(replay.deaths, it.size)
     yield from paragraph([*life_lines(replay)])
@@ -231,7 +231,7 @@ def json_line(it: Played, replay: Replay, differs: Optional[orders.Difference], 
     """The same as one object on one line."""
     wanted, deaths, restart = greatest_wanted(it.usage), first_deaths(replay), replay.how.restart
     return json.dumps({
-        **it.as_json(), **more, "restart_seconds": restart and restart.seconds,
+        **it.as_json(), **more, "choices": [*replay.how.choices], "restart_seconds": restart and restart.seconds,
         "is_backoff": bool(restart and restart.is_backoff),
         "survived": not replay.deaths, "times_refused": replay.refused,
         "reclaimed_bytes": replay.groups["/"].reclaimed * it.size,
@@ -242,4 +242,4 @@ def json_line(it: Played, replay: Replay, differs: Optional[orders.Difference], 
         "reclaims": [{"limit": limit, "file": f"memory.{bound}", "group": group, "first_seconds": reclaim.first,
                       "last_seconds": reclaim.last, "bytes": reclaim.frames * it.size}
                      for (limit, bound, group), reclaim in sorted(replay.reclaims.items())],
-        "reversed": orders.as_json(differs, it.size), "remarks": [*it.hidden, *it.remarks]})
+        "reversed": orders.as_json(differs, it.size), "remarks": [*it.hidden, *margins.kernel_line(it.usage), *it.remarks]})

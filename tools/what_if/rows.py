@@ -10,7 +10,7 @@ from .series import COUNTED, MAX, SETTINGS, Series, read_number, read_time
 
 COLUMNS = {"seconds": ("seconds", "time", "timestamp"), "group": ("group", "path", "pod", "name"), "rss": ("anon", "rss"),
            "cache": ("file", "cache"), "limit": ("max", "limit"), "high": ("high",), "low": ("low",), "min": ("min",),
-           "oom_kill": ("oom_kill",), "peak": ("peak",)}
+           "oom_kill": ("oom_kill",), "peak": ("peak",), "kernel": ("kernel",), "pids": ("pids",)}
 
 
 def alternatives(words: Sequence[str]) -> str:
@@ -32,10 +32,10 @@ def places_of(titles: List[str]) -> Dict[str, int]:
 def add_row(row: List[str], places: Dict[str, int], found: Dict[Tuple[str, str], Series]) -> None:
     """A row's values go to the series of its group."""
     seconds, group = read_time(row[places["seconds"]]), row[places["group"]]
-    for kind in ("rss", "cache", *SETTINGS, *COUNTED):
+    for kind in ("rss", "cache", "kernel", *SETTINGS, *COUNTED):
         word = row[places[kind]].strip() if kind in places else ""
         number = MAX if kind in SETTINGS and word in NO_LIMIT else read_number(word)
-        may_lack = kind in SETTINGS or kind in COUNTED
+        may_lack = kind not in ("rss", "cache")
         if number is None and kind in places and not (may_lack and word == ""):
             raise Fault(f"'{word}' is no number of bytes")
         if number is not None and number < 0:

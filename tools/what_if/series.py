@@ -19,13 +19,14 @@ KINDS = {"container_memory_rss": "rss", "container_memory_cache": "cache", "cont
          "container_memory_total_active_file_bytes": "active_file",
          "container_memory_total_inactive_file_bytes": "inactive_file",
          "container_oom_events_total": "oom_kill", "container_memory_max_usage_bytes": "peak",
+         "container_memory_kernel_usage": "kernel", "container_processes": "pids",
          "machine_memory_bytes": "host", "node_memory_MemTotal_bytes": "host"}
-KIND_NAMES = ["rss", "cache", "usage", "working_set", "limit", "active_file", "inactive_file", "shmem", "host", "oom_kill",
-              "peak"]
+KIND_NAMES = ["rss", "cache", "usage", "working_set", "limit", "active_file", "inactive_file", "shmem", "kernel", "host",
+              "oom_kill", "peak", "pids"]
 # The kinds that are settings. From MAX on a number means `max`: version 1 writes such a limit if there is none.
 SETTINGS, MAX = {"limit": "max", "high": "high", "low": "low", "min": "min"}, 1 << 60
 # The kinds that the kernel counts or keeps.
-COUNTED = ("oom_kill", "peak")
+COUNTED = ("oom_kill", "peak", "pids")
 UNITS = {"": 1, "B": 1,
          **{f"{unit}{end}": 1024 ** power for power, unit in enumerate("KMGTP", 1) for end in ("", "i", "iB")},
          **{f"{unit}B": 1000 ** power for power, unit in enumerate("kMGTP", 1)}}

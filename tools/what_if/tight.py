@@ -8,8 +8,9 @@ from typing import Any, Dict, Iterable, Iterator, List, Optional
 from . import censored
 from .amounts import path_text, seconds_text
 from .least import Least
+from .margins import kernel_line
 from .replay import How, Replay, played
-from .report import Played, first_deaths, table
+from .report import Played, first_deaths, paragraph, table
 from .usage import Given, Usage, with_settings
 
 # By how many percent limits are changed, in the order of the columns.
@@ -68,8 +69,7 @@ def lines(it: Played, found: List[Margin], without: int) -> Iterator[str]:
     yield it.head()
     yield ""
     yield from table([columns, *rows])
-    if it.hidden:
-        yield from ["", *it.hidden]
+    yield from paragraph([*it.hidden, *kernel_line(it.usage)])
     yield ""
     short = sum(one.percent > 100 for one in found)
     yield f"{short} of {len(found)} groups need more than their limit; {without} groups have no limit"
@@ -82,4 +82,4 @@ def json_line(it: Played, found: List[Margin]) -> str:
                 "percent": round(one.percent, 1), "is_at_least": censored.marked(it.killed, one.group),
                 "died_first_seconds": {f"{change:+d}": seconds for change, seconds in zip(CHANGES, one.deaths)}}
 
-    return json.dumps({**it.as_json(), "groups": [of(one) for one in found], "remarks": [*it.hidden, *it.remarks]})
+    return json.dumps({**it.as_json(), "groups": [of(one) for one in found], "remarks": [*it.hidden, *kernel_line(it.usage), *it.remarks]})

@@ -40,6 +40,15 @@ class Track:
     peak: Optional[int] = None
     # The samples at which it began, first and anew.
     starts: List[int] = field(default_factory=list)
+    # What it had of kernel memory that can't be reclaimed, if that was recorded; and the most once it is counted in `anon`.
+    kernel: "array[int]" = field(default_factory=lambda: array("q"))
+    most_kernel: Optional[int] = None
+    # The most tasks that it had, if they were recorded.
+    pids: Optional[int] = None
+
+    def kinds(self) -> List["array[int]"]:
+        """The amounts of each kind that was recorded."""
+        return [self.anon, self.file, *([self.kernel] if self.kernel else [])]
 
     def total(self, at: int) -> int:
         """What it had at a sample."""
@@ -95,9 +104,22 @@ def usage_of(times: "array[float]", tracks: Dict[str, Track], host: Optional[int
     """The usage of these tracks, with all groups above them."""
     samples = len(times)
     for track in tracks.values():
-        for amounts in (track.anon, track.file):
+        for amounts in track.kinds():
             amounts.extend([NONE] * (samples - len(amounts)))
     return Usage(times, {path: tracks.get(path) or empty_track(samples) for path in with_ancestors(tracks)}, host)
+
+
+def with_kernel(usage: Usage) -> Usage:
+    """The same with kernel memory counted as anonymous memory, since no limit reclaims it either. Where it has no value, the
+    last one holds."""
+    def folded(_: str, track: Track) -> Track:
+        anon, last = track.anon[:], 0
+        for at, amount in enumerate(track.kernel):
+            last = last if amount == NONE else amount
+            anon[at] += last if anon[at] != NONE else 0
+        return replace(track, anon=anon, kernel=array("q"), most_kernel=max(0, *track.kernel)) if track.kernel else track
+
+    return with_tracks(usage, folded)
 
 
 def setting_word(value: Optional[int]) -> str:
@@ -128,14 +150,19 @@ def frame_size(host: int, least: Optional[int]) -> int:
 
 
 def in_frames(usage: Usage, size: int) -> Usage:
-    """The same in frames of this size: amounts are rounded up and settings down, so that no answer is too kind."""
-    def frames(amounts: "array[int]") -> "array[int]":
+    """The same in frames of this size: anonymous memory and the whole are rounded up and settings down, so that no answer is
+    too kind."""
+    def frames(amounts: Iterable[int]) -> "array[int]":
         return array("q", [-(-amount // size) if amount > 0 else amount for amount in amounts])
 
-    return with_tracks(usage, lambda _, track: replace(
-        track, anon=frames(track.anon), file=frames(track.file), settings={
+    def changed(_: str, track: Track) -> Track:
+        anon, whole = frames(track.anon), frames(track.total(at) for at in range(len(track.anon)))
+        file = array("q", [NONE if own == NONE else both - own for own, both in zip(anon, whole)])
+        return replace(track, anon=anon, file=file, settings={
             kind: [Setting(one.at, None if one.value is None else one.value // size) for one in values]
-            for kind, values in track.settings.items()}), None if usage.host is None else usage.host // size)
+            for kind, values in track.settings.items()})
+
+    return with_tracks(usage, changed, None if usage.host is None else usage.host // size)
 
 
 def with_tracks(usage: Usage, change: Callable[[str, Track], Track], host: Optional[int] = None) -> Usage:

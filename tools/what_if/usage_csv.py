@@ -12,8 +12,8 @@ from .files import open_text
 from .paths import MOST_GROUPS, check_path
 from .usage import DEFAULTS, NONE, Track, Usage, groups_with, setting_word, usage_of
 
-# The columns of a record, and those that it must have. oom_kill and peak are counted by the kernel.
-COUNTED = ["oom_kill", "peak"]
+# The columns of a record, and those that it must have. The last ones are counted by the kernel.
+COUNTED = ["oom_kill", "peak", "kernel", "pids"]
 HEADER = ["seconds", "group", "anon", "file", *DEFAULTS, *COUNTED]
 LEAST = HEADER[:5]
 # What to do about times and numbers in other forms.
@@ -93,10 +93,13 @@ class Reading:
                 self.count(path, name, at, whole_number(word, name))
 
     def count(self, path: str, name: str, at: int, number: int) -> None:
-        """What the kernel counted of a group. A count that falls began anew."""
+        """What the kernel counted of a group. A count of kills that falls began anew."""
         track = self.tracks[path]
-        if name == "peak":
-            track.peak = max(number, track.peak or 0)
+        if name == "kernel":
+            track.kernel.extend([*[NONE] * (at - len(track.kernel)), number])
+            return
+        if name in ("peak", "pids"):
+            setattr(track, name, max(number, getattr(track, name) or 0))
             return
         before = self.counts.get(path, number)
         if number > before or number and number < before:
@@ -149,8 +152,8 @@ def usage_lines(usage: Usage) -> Iterator[str]:
     """The lines of a usage."""
     kinds = [kind for kind in DEFAULTS if kind == "max" or groups_with(usage, kind)]
     tracks = sorted(usage.tracks.items())
-    counted = [name for name, is_there in (("oom_kill", any(track.oom_kills for _, track in tracks)),
-                                           ("peak", any(track.peak for _, track in tracks))) if is_there]
+    counted = [name for name in COUNTED
+               if any(getattr(track, "oom_kills" if name == "oom_kill" else name) for _, track in tracks)]
     yield ",".join([*HEADER[:4], *kinds, *counted])
     held = {path: dict(DEFAULTS) for path in usage.tracks}
     changes: Dict[Tuple[str, int], List[Tuple[str, Optional[int]]]] = {
@@ -168,7 +171,8 @@ def usage_lines(usage: Usage) -> Iterator[str]:
             if track.anon[at] == NONE and not is_host:
                 continue
             words = [setting_word(usage.host if is_host and kind == "max" else held[path][kind]) for kind in kinds]
-            more = {"oom_kill": str(kills[path]), "peak": setting_word(track.peak) if track.peak else ""}
+            more = {"oom_kill": kills[path], "peak": track.peak, "pids": track.pids,
+                    "kernel": track.kernel[at] if track.kernel and track.kernel[at] != NONE else None}
             yield ",".join([f"{seconds:.3f}", path, str(max(0, track.anon[at])), str(max(0, track.file[at])), *words,
-                            *(more[name] for name in counted)])
+                            *("" if more[name] is None else str(more[name]) for name in counted)])
     yield from (f"# {remark}" for remark in usage.remarks)
