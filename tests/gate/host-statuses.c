@@ -146,12 +146,12 @@ static void live(void) {
 }
 
 int main(void) {
-    tempolemon_sizes low_high = SIZES, no_frames = SIZES, great_batch = SIZES, no_kill = SIZES, two = SIZES, fair_two = SIZES;
+    tempolemon_sizes low_high = SIZES, no_frames = SIZES, great_batch = SIZES, no_kill = SIZES, two = SIZES, proportional_two = SIZES;
     low_high.high = 3;
     great_batch.reclaim_batch = 65;
     no_kill.no_kill = 1;
     two.no_kill = 2;
-    fair_two.fair = 2;
+    proportional_two.proportional = 2;
     no_frames.frames = 0;
     expect("an exact buffer", SIZES, "1 mkdir /a\n", 8, TEMPOLEMON_DONE, "group 1\n", 8, 0);
     expect("a longer buffer", SIZES, "1 mkdir /a\n", 64, TEMPOLEMON_DONE, "group 1\n", 8, 0);
@@ -163,7 +163,7 @@ int main(void) {
     expect("no frames", no_frames, "bad\n", 64, TEMPOLEMON_BAD_CONFIG, "", 0, 0);
     expect("a great batch of reclaim", great_batch, "1 mkdir /a\n", 64, TEMPOLEMON_BAD_CONFIG, "", 0, 0);
     expect("no_kill of 2", two, "1 mkdir /a\n", 64, TEMPOLEMON_BAD_CONFIG, "", 0, 0);
-    expect("fair of 2", fair_two, "1 mkdir /a\n", 64, TEMPOLEMON_BAD_CONFIG, "", 0, 0);
+    expect("proportional of 2", proportional_two, "1 mkdir /a\n", 64, TEMPOLEMON_BAD_CONFIG, "", 0, 0);
     great_batch.reclaim_batch = 64;
     expect("the greatest batch of reclaim", great_batch, "1 mkdir /a\n", 64, TEMPOLEMON_DONE, "group 1\n", 8, 0);
     expect("nobody is killed", no_kill, "1 mkdir /a\n1 write /a memory.max 4K\n1 alloc /a 0\n1 dirty 0\n1 alloc /a 0\n", 64,

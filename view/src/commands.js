@@ -43,19 +43,19 @@ export const isDigit = (text, at) => text.charCodeAt(at) >= 48 && text.charCodeA
 export const CUT = "the comment of this line is cut, so that nobody can say what it asks for";
 
 const SIZES = new RegExp("^# memcg batch ([1-9][0-9]?) high ([1-9][0-9]{0,2}) stock ([1-9][0-9]?)" +
-  "( reclaim-batch ([1-9][0-9]?))?( no-kill)?( fair)?$");
+  "( reclaim-batch ([1-9][0-9]?))?( no-kill)?( proportional)?$");
 /** The sizes that the second line of a log of memcg has; null if it has none that `replay` takes. */
 export function sizesOf(text) {
   const found = SIZES.exec(text) ?? [];
   const [batch, high, stock] = found.slice(1, 4).map(Number), reclaimBatch = Number(found[5] ?? 1),
-    isNoKill = found[6] !== undefined, isFair = found[7] !== undefined;
+    isNoKill = found[6] !== undefined, isProportional = found[7] !== undefined;
   return batch <= 64 && batch <= high && high <= 256 && stock <= 64 && reclaimBatch <= 64 ?
-    { batch, high, stock, reclaimBatch, isNoKill, isFair } : null;
+    { batch, high, stock, reclaimBatch, isNoKill, isProportional } : null;
 }
 /** The sizes and choices of a boot in words, but for the choices that a boot without any doesn't make. */
-export function sizesWords({ batch, high, stock, reclaimBatch, isNoKill, isFair }) {
+export function sizesWords({ batch, high, stock, reclaimBatch, isNoKill, isProportional }) {
   return `batch ${batch}, high ${high}, stock ${stock}${reclaimBatch > 1 ? `, reclaim batch ${reclaimBatch}` :
-    ""}${isNoKill ? ", no kills" : ""}${isFair ? ", fair" : ""}`;
+    ""}${isNoKill ? ", no kills" : ""}${isProportional ? ", proportional" : ""}`;
 }
 /** The words of a command: the value of a write is all that follows. */
 export function wordsOf(command) {

@@ -72,7 +72,6 @@ export class Follower extends LineState {
   number = 0;
   seconds = -1;
   choices = 0;
-  lastTurn = 0;
   fresh = -1;
   isPlaced = false;
   constructor() {
@@ -225,8 +224,12 @@ export class Follower extends LineState {
       }
       return pages;
     };
+    const groups = state.subtree(top);
+    for (const [at, share] of this.shares(top, groups, want).entries())
+      if (share && told.pages < want)
+        yield* this.turn(top, groups[at], 1, Math.min(share, want - told.pages), attempt, detail);
     for (const pass of state.isProtecting ? [1, 2, 3] : [1, 2]) {
-      for (const group of this.inTurn(state.subtree(top)))
+      for (const group of groups)
         if (told.pages < want) yield* this.turn(top, group, pass, want - told.pages, attempt, detail);
     }
     close();
@@ -234,14 +237,22 @@ export class Follower extends LineState {
       told.returned} returned ${told.returned} bytes ${told.pages * PAGE} usage ${state.groups[top].current * PAGE}`);
     return told.pages;
   }
-  /**
-   * The groups in the order of their turns: if turns go round, from the one on that comes after the last one that had a
-   * turn.
-   */
-  inTurn(groups) {
-    const last = this.lastTurn;
-    return this.sizes.isFair ? [...groups.filter(group => group > last), ...groups.filter(group => group <= last)] :
-      groups;
+  /** What memory.min and memory.low protect of a group. */
+  protections(top, group) {
+    return ["min", "low"].map(key => this.state.protection(key, top, group));
+  }
+  /** The pages that the pass of shares wants of each of these groups; none without that pass. */
+  shares(top, groups, want) {
+    if (!this.sizes.isProportional) return [];
+    const { groups: rows, clean } = this.state, sum = numbers => numbers.reduce((all, number) => all + number, 0);
+    const gives = groups.map(group =>
+      Math.max(0, Math.min(clean[group], rows[group].current - Math.max(...this.protections(top, group)))));
+    const total = sum(gives) || 1, shared = Math.min(want, sum(gives)),
+      rests = gives.map(pages => shared * pages % total),
+      shares = gives.map((pages, at) => (shared * pages - rests[at]) / total),
+      byRest = [...rests.keys()].sort((a, b) => rests[b] - rests[a]);
+    for (const at of byRest.slice(0, shared - sum(shares))) shares[at]++;
+    return shares;
   }
   /**
    * A group's turn in a pass: it ends at what is protected. The third pass spares what memory.min protects, and notes
@@ -250,14 +261,12 @@ export class Follower extends LineState {
   *turn(top, group, pass, want, attempt, detail) {
     const { state } = this, [inactive, active] = [groupList(group, false), groupList(group, true)],
       { current, path } = state.groups[group];
-    const [min, low] = ["min", "low"].map(key => state.protection(key, top, group)),
-      spared = pass === 3 ? min : Math.max(min, low);
-    const most = spared ? Math.min(want, current - spared) : want,
+    const [min, low] = this.protections(top, group), spared = pass === 3 ? min : Math.max(min, low);
+    const most = spared ? Math.min(want, Math.max(0, current - spared)) : want,
       facts = `${path} usage ${current * PAGE} min ${min * PAGE} low ${low * PAGE}`;
     let freed = 0;
-    if (pass === 1 && most < want && current) detail(`# spared ${facts}`);
+    if (pass === 1 && most < Math.min(want, state.clean[group])) detail(`# spared ${facts}`);
     if (most <= 0) return;
-    this.lastTurn = group;
     while (pass === 1 && state.length[active] > state.length[inactive]) this.move(state.first[active], false);
     for (const list of pass === 1 ? [inactive] : [inactive, active]) {
       const last = state.last[list];
@@ -746,8 +755,7 @@ export class Follower extends LineState {
     const { state, line: { verb, words } } = this, frame = Number(words[0]);
     if (!["touch", "dirty", "clean"].includes(verb) || !isGroupList(state.list[frame])) return;
     const isActive = state.list[frame] === groupList(groupOf(state.place[frame]), true);
-    if (verb === "dirty") state.flags[frame] |= DIRTY;
-    else if (verb === "clean") state.flags[frame] &= ~DIRTY;
+    if (verb !== "touch") state.soil(frame, verb === "dirty");
     else if (isActive || state.flags[frame] & MARKED) this.move(frame, true);
     else state.flags[frame] |= MARKED;
     this.left = isActive || !(state.flags[frame] & MARKED) ? "active" : "marked";

@@ -61,6 +61,7 @@ export class State {
     this.first = new Int32Array(LISTS).fill(-1);
     this.last = new Int32Array(LISTS).fill(-1);
     this.length = new Int32Array(LISTS);
+    this.clean = new Int32Array(MOST_GROUPS); // pages of the clean units on each group's lists
     this.parts = [null];
     for (let cpu = 1; cpu <= cpus; cpu++) this.parts.push({ pins: new Map(), pinned: 0, transit: 0, group: -1, pages: 0,
       isDrained: false, book: 0, unreported: 0, reported: 0 });
@@ -92,11 +93,13 @@ export class State {
     this.list[frame] = list;
     this.turn[frame] = ++this.turns;
     this.length[list]++;
+    this.countClean(frame, 1);
     this.touched.lists.add(list);
     this.touched.frames.push(frame);
   }
   remove(frame) {
     const list = this.list[frame], next = this.next[frame], before = this.before[frame];
+    this.countClean(frame, -1);
     if (before < 0) this.first[list] = next;
     else this.next[before] = next;
     if (next < 0) this.last[list] = before;
@@ -105,6 +108,17 @@ export class State {
     this.length[list]--;
     this.touched.lists.add(list);
     this.touched.frames.push(frame);
+  }
+  countClean(frame, sign) {
+    const place = this.place[frame];
+    if (isGroupList(this.list[frame]) && !(this.flags[frame] & DIRTY))
+      this.clean[groupOf(place)] += sign * 2 ** orderOf(place);
+  }
+  /** Marks a unit of a list as dirty, or as clean. */
+  soil(frame, isDirty) {
+    this.countClean(frame, -1);
+    this.flags[frame] = this.flags[frame] & ~DIRTY | (isDirty ? DIRTY : 0);
+    this.countClean(frame, 1);
   }
   count(kind, cpu) {
     return this.length[cpuList(kind, cpu)];
