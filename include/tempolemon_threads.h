@@ -154,12 +154,17 @@ TEMPOLEMON_NODISCARD uint8_t tempolemon_try_peak(tempolemon_cpu_part *part, uint
 TEMPOLEMON_NODISCARD uint8_t tempolemon_try_max(tempolemon_cpu_part *part, uint32_t group, tempolemon_result *out);
 TEMPOLEMON_NODISCARD uint8_t tempolemon_try_high(tempolemon_cpu_part *part, uint32_t group, tempolemon_result *out);
 
-/* Writes of a group's memory.max, .high and .reclaim by its number, in pages; 2^32 or more are `max`: OK. A number may be
- * given to a new group once its group is removed. Refusals: NO_FILE, of the root; AGAIN, of tempolemon_try_reclaim. */
+/* Writes of a group's memory.max, .high, .low, .min and .reclaim by its number, in pages; 2^32 or more are `max`: OK. A
+ * number may be given to a new group once its group is removed. Refusals: NO_FILE, of the root; AGAIN, of
+ * tempolemon_try_reclaim. */
 TEMPOLEMON_NODISCARD uint8_t tempolemon_try_set_max(tempolemon_cpu_part *part, uint32_t group, uint64_t pages,
                                                     tempolemon_result *out);
 TEMPOLEMON_NODISCARD uint8_t tempolemon_try_set_high(tempolemon_cpu_part *part, uint32_t group, uint64_t pages,
                                                      tempolemon_result *out);
+TEMPOLEMON_NODISCARD uint8_t tempolemon_try_set_low(tempolemon_cpu_part *part, uint32_t group, uint64_t pages,
+                                                    tempolemon_result *out);
+TEMPOLEMON_NODISCARD uint8_t tempolemon_try_set_min(tempolemon_cpu_part *part, uint32_t group, uint64_t pages,
+                                                    tempolemon_result *out);
 TEMPOLEMON_NODISCARD uint8_t tempolemon_try_reclaim(tempolemon_cpu_part *part, uint32_t group, uint64_t pages,
                                                     tempolemon_result *out);
 
@@ -361,6 +366,14 @@ TEMPOLEMON_NODISCARD static inline uint8_t tempolemon_on_set_max(tempolemon_cpu 
 TEMPOLEMON_NODISCARD static inline uint8_t tempolemon_on_set_high(tempolemon_cpu *cpu, uint32_t group, uint64_t pages,
                                                                   tempolemon_result *out) {
     TEMPOLEMON_CALL(cpu, TEMPOLEMON_PUT_NOTHING(out), tempolemon_try_set_high(&cpu->part, group, pages, out));
+}
+TEMPOLEMON_NODISCARD static inline uint8_t tempolemon_on_set_low(tempolemon_cpu *cpu, uint32_t group, uint64_t pages,
+                                                                 tempolemon_result *out) {
+    TEMPOLEMON_CALL(cpu, TEMPOLEMON_PUT_NOTHING(out), tempolemon_try_set_low(&cpu->part, group, pages, out));
+}
+TEMPOLEMON_NODISCARD static inline uint8_t tempolemon_on_set_min(tempolemon_cpu *cpu, uint32_t group, uint64_t pages,
+                                                                 tempolemon_result *out) {
+    TEMPOLEMON_CALL(cpu, TEMPOLEMON_PUT_NOTHING(out), tempolemon_try_set_min(&cpu->part, group, pages, out));
 }
 TEMPOLEMON_NODISCARD static inline uint8_t tempolemon_on_reclaim(tempolemon_cpu *cpu, uint32_t group, uint64_t pages,
                                                                  tempolemon_result *out) {

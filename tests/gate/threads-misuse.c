@@ -32,7 +32,8 @@ static void all_are(const char *what, tempolemon_cpu *cpu, uint8_t wanted) {
         tempolemon_on_owner(cpu, 0, &result), tempolemon_on_settle(cpu, &result),
         tempolemon_on_usage(cpu, 0, &result), tempolemon_on_peak(cpu, 0, &result), tempolemon_on_max(cpu, 0, &result),
         tempolemon_on_high(cpu, 0, &result), tempolemon_on_set_max(cpu, 0, 1, &result),
-        tempolemon_on_set_high(cpu, 0, 1, &result), tempolemon_on_reclaim(cpu, 0, 1, &result),
+        tempolemon_on_set_high(cpu, 0, 1, &result), tempolemon_on_set_low(cpu, 0, 1, &result),
+        tempolemon_on_set_min(cpu, 0, 1, &result), tempolemon_on_reclaim(cpu, 0, 1, &result),
         tempolemon_on_show(cpu, text, sizeof text, &written), tempolemon_on_blocks(cpu, text, sizeof text, &written),
         tempolemon_on_stock(cpu, text, sizeof text, &written), tempolemon_on_units(cpu, "/", 1, text, sizeof text, &written),
         tempolemon_return(cpu),
@@ -127,6 +128,14 @@ static void refusals(void) {
     /* pages by a group's number */
     is("a limit", tempolemon_on_set_max(&one, group, 9, &result), TEMPOLEMON_DONE);
     is("memory.high", tempolemon_on_set_high(&one, group, (uint64_t)1 << 32, &result), TEMPOLEMON_DONE);
+    is("memory.low", tempolemon_on_set_low(&one, group, 2, &result), TEMPOLEMON_DONE);
+    is("its text", tempolemon_on_read(&one, "/a", 2, "memory.low", 10, text, 256, &result), TEMPOLEMON_DONE);
+    is("is in bytes", (unsigned long)memcmp(text, "8192\n", 5), 0);
+    is("memory.min", tempolemon_on_set_min(&one, group, 3, &result), TEMPOLEMON_DONE);
+    is("its text", tempolemon_on_read(&one, "/a", 2, "memory.min", 10, text, 256, &result), TEMPOLEMON_DONE);
+    is("is in bytes", (unsigned long)memcmp(text, "12288\n", 6), 0);
+    is("no memory.low", tempolemon_on_set_low(&one, group, 0, &result), TEMPOLEMON_DONE);
+    is("no memory.min", tempolemon_on_set_min(&one, group, 0, &result), TEMPOLEMON_DONE);
     is("the limit", tempolemon_on_max(&one, group, &result), TEMPOLEMON_DONE);
     is("its pages", result.number + 100 * result.kind, 9 + 100 * TEMPOLEMON_PAGES);
     is("its text", tempolemon_on_read(&one, "/a", 2, "memory.max", 10, text, 256, &result), TEMPOLEMON_DONE);

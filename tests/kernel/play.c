@@ -118,7 +118,7 @@ static void work(int g, int in, int out) {
             for (; has_anon < order.amount; has_anon += PAGE) *(volatile char *)(anon + has_anon) = 1;
         if (!strcmp(order.what, "file"))
             for (; has_file < order.amount; has_file += PAGE) (void)*(volatile char *)(file + has_file);
-        answer.resident = look(!strcmp(order.what, "use"));
+        if (!strcmp(order.what, "use") || !strcmp(order.what, "look")) answer.resident = look(order.what[0] == 'u');
     } while (1);
 }
 

@@ -198,11 +198,11 @@ class Formulas(unittest.TestCase):
         self.assertEqual(with_percent({"/a": 3}, 4096, 10), {"/a": 4 * 4096})
 
     def test_margin_for_linux(self):
-        """224 KiB a process, 0.3 % of the limit and 0.6 % of the greatest file pages; 128 KiB and 0.3 % of the file pages if
+        """224 KiB a process, 0.3 % of the limit and 0.6 % of the greatest file pages; 192 KiB and 0.3 % of the file pages if
         kernel memory is known."""
         made = usage(**{"p/a": track([5], [1000], pids=3), "p/b": track([5], [1000]), "q": track([9], [2000], most_kernel=4096)})
         self.assertEqual(for_linux(made, 4096, "/p", 1000), 4096 * (1000 + 4 * 56 + 3 + 12))
-        self.assertEqual(for_linux(made, 4096, "/q", 9), 4096 * (9 + 32 + 6))
+        self.assertEqual(for_linux(made, 4096, "/q", 9), 4096 * (9 + 48 + 6))
         self.assertEqual((read_margin("linux"), read_margin("2.5")), ("linux", 2.5))
         for word in ("-1", "nan", "kernel"):
             self.assertRaises(Fault, read_margin, word)

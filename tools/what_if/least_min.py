@@ -105,8 +105,7 @@ def order_line(found: Found, sought: Sought, it: Played) -> Iterator[str]:
     """The warning, if the order of the groups decides."""
     if found.in_reverse != found.least(sought.group):
         other = "none keeps them" if found.in_reverse is None else f"it is {it.text(found.in_reverse)}"
-        yield ("# warning: the order in which the record names the groups decides: reclaim takes pages of those made first. In "
-               f"the reversed order {other}")
+        yield f"# warning: the order in which the record names the groups decides. In the reversed order {other}"
 
 
 def lines(it: Played, found: Found, sought: Sought, margin: float) -> Iterator[str]:

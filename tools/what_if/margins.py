@@ -14,8 +14,9 @@ Margin = Union[float, str]
 # What was enough beside Linux 6.1 and 6.12, as docs/KERNEL.md shows: bytes a process, and thousandths of the limit and of the
 # greatest file pages.
 OF_PROCESS, OF_LIMIT, OF_FILES = 224 << 10, 3, 6
-# If kernel memory was recorded: bytes, and thousandths of the file pages. Slabs for these are reclaimed late.
-ALWAYS, OF_KNOWN_FILES = 128 << 10, 3
+# If kernel memory was recorded: bytes, and thousandths of the file pages. Slabs for these are reclaimed late; with a memory.min
+# of half the file pages 128 KiB weren't enough.
+ALWAYS, OF_KNOWN_FILES = 192 << 10, 3
 
 
 def read_margin(word: str) -> Margin:

@@ -1,4 +1,4 @@
-"""Whether an answer depends on the order in which the groups are made: reclaim takes pages of those made first."""
+"""Whether an answer depends on the order in which the groups are made: they grow in it, and reclaim may go by it."""
 from __future__ import annotations
 
 from dataclasses import dataclass

@@ -193,6 +193,14 @@ class Cpu:
         """Writes the group's memory.high: so many pages, or None for `max`. Raises BadGroup, NoFile of the root."""
         self._call(raw.library.tempolemon_try_set_high, _word(group, "group"), _pages(pages))
 
+    def set_low(self, group: int, pages: Optional[int]) -> None:
+        """Writes the group's memory.low: so many pages, or None for `max`. Raises BadGroup, NoFile of the root."""
+        self._call(raw.library.tempolemon_try_set_low, _word(group, "group"), _pages(pages))
+
+    def set_min(self, group: int, pages: Optional[int]) -> None:
+        """Writes the group's memory.min: so many pages, or None for `max`. Raises BadGroup, NoFile of the root."""
+        self._call(raw.library.tempolemon_try_set_min, _word(group, "group"), _pages(pages))
+
     def reclaim(self, group: int, pages: int) -> None:
         """Reclaims so many pages from the group and those below it, as a write of memory.reclaim does.
 

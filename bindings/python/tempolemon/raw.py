@@ -49,7 +49,7 @@ _FORMS = {
     "try_clean": (c_uint32, *_OUT), "try_owner": (c_uint32, *_OUT), "try_settle": _OUT,
     "try_mkdir": (*_TEXT, *_OUT), "try_rmdir": (*_TEXT, *_OUT), "try_write": (*_TEXT * 3, *_OUT),
     **{f"try_{name}": (c_uint32, *_OUT) for name in ("usage", "peak", "max", "high")},
-    **{f"try_{name}": (c_uint32, c_uint64, *_OUT) for name in ("set_max", "set_high", "reclaim")},
+    **{f"try_{name}": (c_uint32, c_uint64, *_OUT) for name in ("set_max", "set_high", "set_low", "set_min", "reclaim")},
     "try_read": (*_TEXT * 2, *_ROOM, *_OUT), "try_show": (*_ROOM, POINTER(c_size_t)),
     "try_blocks": (*_ROOM, POINTER(c_size_t)), "try_stock": (*_ROOM, POINTER(c_size_t)),
     "try_units": (*_TEXT, *_ROOM, POINTER(c_size_t)),

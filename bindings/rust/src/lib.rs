@@ -362,6 +362,22 @@ impl Cpu<'_> {
         self.call(|cpu, out| unsafe { raw::tempolemon_try_set_high(cpu, group.0, pages, out) }).map(drop)
     }
 
+    /// Writes the group's memory.low: so many pages, or `None` for `max`.
+    ///
+    /// Errors: those of [`Cpu::set_max`].
+    pub fn set_low(&self, group: Group, pages: Option<u32>) -> Result<(), Error> {
+        let pages = pages.map_or(u64::MAX, u64::from);
+        self.call(|cpu, out| unsafe { raw::tempolemon_try_set_low(cpu, group.0, pages, out) }).map(drop)
+    }
+
+    /// Writes the group's memory.min: so many pages, or `None` for `max`.
+    ///
+    /// Errors: those of [`Cpu::set_max`].
+    pub fn set_min(&self, group: Group, pages: Option<u32>) -> Result<(), Error> {
+        let pages = pages.map_or(u64::MAX, u64::from);
+        self.call(|cpu, out| unsafe { raw::tempolemon_try_set_min(cpu, group.0, pages, out) }).map(drop)
+    }
+
     /// Reclaims so many pages from the group and those below it, as a write of memory.reclaim does.
     ///
     /// Errors: `Again` if fewer came back; those of [`Cpu::set_max`].

@@ -73,6 +73,8 @@ extern "C" {
     pub fn tempolemon_try_high(part: *mut Handle, group: u32, out: *mut TypedResult) -> u8;
     pub fn tempolemon_try_set_max(part: *mut Handle, group: u32, pages: u64, out: *mut TypedResult) -> u8;
     pub fn tempolemon_try_set_high(part: *mut Handle, group: u32, pages: u64, out: *mut TypedResult) -> u8;
+    pub fn tempolemon_try_set_low(part: *mut Handle, group: u32, pages: u64, out: *mut TypedResult) -> u8;
+    pub fn tempolemon_try_set_min(part: *mut Handle, group: u32, pages: u64, out: *mut TypedResult) -> u8;
     pub fn tempolemon_try_reclaim(part: *mut Handle, group: u32, pages: u64, out: *mut TypedResult) -> u8;
     pub fn tempolemon_try_show(part: *mut Handle, text: *mut u8, room: usize, written: *mut usize) -> u8;
     pub fn tempolemon_try_blocks(part: *mut Handle, text: *mut u8, room: usize, written: *mut usize) -> u8;

@@ -23,6 +23,10 @@ fn each_call_is_answered() -> Result<(), Error> {
     cpu.set_max(a, None)?;
     cpu.set_high(a, Some(16))?;
     assert_eq!((cpu.max(a)?, cpu.high(a)?), (None, Some(16)));
+    cpu.set_low(a, Some(2))?;
+    cpu.set_min(a, None)?;
+    assert_eq!((cpu.read("/a", "memory.low")?, cpu.read("/a", "memory.min")?), ("8192\n".into(), "max\n".into()));
+    cpu.set_min(a, Some(0))?;
     assert_eq!(cpu.reclaim(a, 1), Err(Error::Again));
     assert_eq!(cpu.usage(Group(63)), Err(Error::BadGroup));
     let frame = cpu.alloc(a, 0)?;

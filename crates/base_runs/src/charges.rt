@@ -17,7 +17,7 @@ fn tells_five_pages(rt: &impl Abort, charges: &Charges, web: GroupId) {
 
 #[test]
 fn the_first_lines_of_use(rt: HostRuntime) -> Result<(), Fail> {
-    let mut charges = Charges::new(rt.alloc())?;
+    let mut charges = Charges::new(rt.alloc(), 8)?;
     let web = charges.make(b"/web")?;
     charges.set_max(web, Some(8));
     charge_pages(&rt, &mut charges, web, 5, Ok(()));

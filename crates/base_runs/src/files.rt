@@ -22,7 +22,7 @@ fn file_reads(rt: &impl Abort, charges: &Charges, group: GroupId, file: File, te
 // The lines of the README.
 #[test]
 fn the_first_lines_of_use(rt: HostRuntime) -> Result<(), Fail> {
-    let mut charges = Charges::new(rt.alloc())?;
+    let mut charges = Charges::new(rt.alloc(), 8)?;
     let web = charges.make(b"/web")?;
     charges.set_max(web, read_limit(b"1M\n")?);
     charge_pages(&rt, &mut charges, web, 5, Ok(()));

@@ -36,7 +36,7 @@ fn goes_up(rt: &impl Abort, tree: &Tree, web: GroupId, one: GroupId)
 
 #[test]
 fn the_first_lines_of_use(rt: HostRuntime) -> Result<(), Fail> {
-    let mut tree = Tree::new(rt.alloc())?;
+    let mut tree = Tree::new(rt.alloc(), 8)?;
     let web = tree.make(b"/web")?;
     let one = tree.make(b"/web/one")?;
     is_one_of_web(&rt, &tree, web, one);

@@ -8,7 +8,7 @@ use crate::tables::Table;
 use anyhow::{Context, Result, bail};
 use cpu_part::BootName;
 use group_tree::group::GroupId;
-use mem_system::{Boot, Cpu, Held, NoGate, ReplyWithText, System, TextCommand, boot};
+use mem_system::{Boot, Cpu, Held, Outcome, System, TextCommand, boot};
 use std::alloc::Global;
 use std::marker::Brand;
 use std::sync::Wait;
@@ -42,54 +42,19 @@ const PATHS: [&[u8]; 8] = [
     b"/d/d/d/d/d/d/d/d",
 ];
 
-// Serves the command by a visit. This function drops the clauses of `System::visit_into`: callers that need only the
-// reply would pay minutes of a check for them. So no other function here calls a visit itself. At run time it costs
-// as much as the call in its place.
+// Serves the command by a visit. This function drops the clauses of `System::visit`: callers that need only the outcome
+// would pay minutes of a check for them. So no other function here calls a visit itself. At run time it costs as much as
+// the call in its place.
 #[inline(always)]
-fn visit_here<N: BootName, R: Wait>(
-    rt: &R,
-    system: &System<N>,
-    cpu: &mut Cpu<N>,
-    cmd: &TextCommand<'_>,
-    reply: &mut ReplyWithText,
-)
-    requires { IsOfZone N.table cmd.now }
-{
-    system.visit_into(rt, cpu, cmd, &NoGate, reply);
-}
-
-// Serves the command by a visit, and returns its reply.
 fn visit<N: BootName, R: Wait>(
     rt: &R,
     system: &System<N>,
     cpu: &mut Cpu<N>,
     cmd: &TextCommand<'_>,
-) -> ReplyWithText
+) -> Outcome
     requires { IsOfZone N.table cmd.now }
 {
-    let mut reply = ReplyWithText::Done;
-    visit_here(rt, system, cpu, cmd, &mut reply);
-    reply
-}
-
-// Serves the command by a visit, which writes its reply over this one.
-fn visit_into<N: BootName, R: Wait>(
-    rt: &R,
-    system: &System<N>,
-    cpu: &mut Cpu<N>,
-    cmd: &TextCommand<'_>,
-    reply: &mut ReplyWithText,
-)
-    requires { IsOfZone N.table cmd.now }
-{
-    visit_here(rt, system, cpu, cmd, reply);
-}
-
-// Settles by a visit. The reply is matched and not passed on.
-fn settle_once<N: BootName, R: Wait>(rt: &R, system: &System<N>, cpu: &mut Cpu<N>) -> bool {
-    let mut reply = ReplyWithText::Done;
-    visit_here(rt, system, cpu, &TextCommand::Settle, &mut reply);
-    matches!(reply, ReplyWithText::Done)
+    system.visit(rt, cpu, cmd)
 }
 
 // Makes the group of the path.
@@ -100,7 +65,7 @@ fn make<N: BootName, R: Wait>(
     path: &[u8],
 ) -> Result<GroupId> {
     match visit(rt, system, cpu, &TextCommand::Mkdir { path }) {
-        ReplyWithText::Group(group) => Ok(group),
+        Outcome::Group(group) => Ok(group),
         _ => bail!("a group was not made"),
     }
 }
@@ -121,7 +86,7 @@ pub fn make_all<N: BootName, R: Wait>(
 pub fn alloc<N: BootName, R: Wait>(rt: &R, system: &System<N>, cpu: &mut Cpu<N>) -> Result<()> {
     let path = SHALLOW;
     match visit(rt, system, cpu, &TextCommand::Alloc { path, order: 0 }) {
-        ReplyWithText::Frame(_) => Ok(()),
+        Outcome::Frame(_) => Ok(()),
         _ => bail!("a frame was not allocated"),
     }
 }
@@ -132,24 +97,16 @@ fn alloc_and_release<N: BootName, R: Wait>(
     system: &System<N>,
     cpu: &mut Cpu<N>,
     path: &[u8],
-    reply: &mut ReplyWithText,
 ) -> bool {
-    visit_into(
-        rt,
-        system,
-        cpu,
-        &TextCommand::Alloc { path, order: 0 },
-        reply,
-    );
-    let ReplyWithText::Frame(number) = *reply else {
+    let given = visit(rt, system, cpu, &TextCommand::Alloc { path, order: 0 });
+    let Outcome::Frame(number) = given else {
         return false;
     };
     let Some(frame) = system.tables().words.frame(number) else {
         return false;
     };
     let frame = frame.number();
-    visit_into(rt, system, cpu, &TextCommand::Release { frame }, reply);
-    matches!(reply, ReplyWithText::Returned)
+    visit(rt, system, cpu, &TextCommand::Release { frame }) == Outcome::Returned
 }
 
 // Allocates and releases a frame this many times.
@@ -161,9 +118,8 @@ fn alloc_and_release_all<N: BootName, R: Wait>(
     count: u32,
 ) -> bool {
     let mut all = true;
-    let mut reply = ReplyWithText::Done;
     for _ in 0..count {
-        all &= alloc_and_release(rt, system, cpu, path, &mut reply);
+        all &= alloc_and_release(rt, system, cpu, path);
     }
     all
 }
@@ -176,41 +132,9 @@ pub fn settle<N: BootName, R: Wait>(
     count: u32,
 ) -> bool {
     for _ in 0..count {
-        if !settle_once(rt, system, cpu) {
+        if visit(rt, system, cpu, &TextCommand::Settle) != Outcome::Done {
             return false;
         }
-    }
-    true
-}
-
-// Settles this many times. Each reply is written over the one before.
-fn settle_into<N: BootName, R: Wait>(
-    rt: &R,
-    system: &System<N>,
-    cpu: &mut Cpu<N>,
-    count: u32,
-) -> bool {
-    let mut reply = ReplyWithText::Free;
-    for _ in 0..count {
-        visit_into(rt, system, cpu, &TextCommand::Settle, &mut reply);
-        let ReplyWithText::Done = reply else {
-            return false;
-        };
-    }
-    true
-}
-
-// Settles this many times. Each reply is returned by value.
-fn settle_by_value<N: BootName, R: Wait>(
-    rt: &R,
-    system: &System<N>,
-    cpu: &mut Cpu<N>,
-    count: u32,
-) -> bool {
-    for _ in 0..count {
-        let ReplyWithText::Done = visit(rt, system, cpu, &TextCommand::Settle) else {
-            return false;
-        };
     }
     true
 }
@@ -223,15 +147,11 @@ struct Visits<'a, N: BootName> {
     together: u32,
 }
 
-// A function pays at its start for the space of its replies. So one function makes all commands that are timed
-// together. A reply is matched, because comparing it would write the whole reply.
 impl<'a, N: BootName, R: Wait> Subject<R> for Visits<'a, N> {
     fn call(&mut self, rt: &R, number: u32) -> bool {
         match number {
             0 => settle(rt, self.system, self.cpu, self.together),
-            1 => settle_into(rt, self.system, self.cpu, self.together),
-            2 => settle_by_value(rt, self.system, self.cpu, self.together),
-            3 => alloc_and_release_all(rt, self.system, self.cpu, SHALLOW, self.together),
+            1 => alloc_and_release_all(rt, self.system, self.cpu, SHALLOW, self.together),
             _ => alloc_and_release_all(rt, self.system, self.cpu, PATHS[7], self.together),
         }
     }
@@ -246,10 +166,8 @@ fn print_visits<N: BootName, R: Wait + Print + Clock>(
 ) -> Result<()> {
     let mut rows = [
         Row::new("settle, with nothing to settle", 0, 1, 100_000),
-        Row::new("  its reply written in place", 1, 1, 100_000),
-        Row::new("  its reply handed on", 2, 1, 100_000),
-        Row::new("alloc of order 0 and release, at depth 1", 3, 1, 100_000),
-        Row::new("alloc of order 0 and release, at depth 8", 4, 1, 100_000),
+        Row::new("alloc of order 0 and release, at depth 1", 1, 1, 100_000),
+        Row::new("alloc of order 0 and release, at depth 8", 2, 1, 100_000),
     ];
     let together = pace.choose(100_000, 2);
     let mut visits = Visits {

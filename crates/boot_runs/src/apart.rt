@@ -6,7 +6,7 @@ use crate::life::{SIZES, answers, ends, expect_true};
 use cpu_part::BootName;
 use frame_word::{Frame, Get};
 use group_tree::group::GroupId;
-use mem_system::{Boot, Cpu, Held, ReplyWithText, System, TextCommand, boot};
+use mem_system::{Boot, Cpu, Held, Outcome, System, TextCommand, boot};
 use std::alloc::Global;
 use std::marker::Brand;
 use std::process::Abort;
@@ -60,16 +60,16 @@ fn charges_and_pins<N: BootName, R: Wait + Abort>(rt: &R, system: &System<N>, cp
         system,
         cpu,
         &TextCommand::Mkdir { path },
-        &ReplyWithText::Group(group),
+        &Outcome::Group(group),
     );
     answers(
         rt,
         system,
         cpu,
         &TextCommand::Alloc { path, order: 0 },
-        &ReplyWithText::Frame(0),
+        &Outcome::Frame(0),
     );
-    answers(rt, system, cpu, &TextCommand::Settle, &ReplyWithText::Done);
+    answers(rt, system, cpu, &TextCommand::Settle, &Outcome::Done);
     let got = cpu.get(system.tables(), frame);
     expect_true(rt, got == Ok(Get::Held));
 }

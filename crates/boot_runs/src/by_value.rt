@@ -6,7 +6,7 @@ use crate::life::{SIZES, expect_true, nothing_was_charged};
 use cpu_part::BootName;
 use group_tree::fault::Fault;
 use group_tree::group::GroupId;
-use mem_system::{Boot, ReplyWithText, TextCommand, boot, end, serve_into};
+use mem_system::{Boot, Outcome, TextCommand, boot, end, serve_text};
 use std::alloc::Global;
 use std::marker::Brand;
 use std::process::Abort;
@@ -20,11 +20,10 @@ fn serves_by_value<N: BootName, R: Abort>(rt: &R, alloc: Global, boot: Boot)
     expect_true(rt, locked.find(path).is_none());
     if let Some(cpu) = cpus.first_mut() {
         let mkdir = TextCommand::Mkdir { path };
-        let mut reply = ReplyWithText::Done;
-        serve_into(&mut locked, &tables, cpu, &mkdir, &mut reply);
-        expect_true(rt, GroupId::of(1).map(ReplyWithText::Group) == Some(reply));
-        serve_into(&mut locked, &tables, cpu, &mkdir, &mut reply);
-        expect_true(rt, reply == ReplyWithText::Refused(Fault::Exists));
+        let made = serve_text(&mut locked, &tables, cpu, &mkdir);
+        expect_true(rt, GroupId::of(1).map(Outcome::Group) == Some(made));
+        let again = serve_text(&mut locked, &tables, cpu, &mkdir);
+        expect_true(rt, again == Outcome::Refused(Fault::Exists));
     }
     expect_true(rt, locked.find(path) == GroupId::of(1));
     match end(locked, tables, cpus) {

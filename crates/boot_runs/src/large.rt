@@ -4,7 +4,7 @@ ghost use Rattle.std.specs.Prelude.{◌≡◌};
 use crate::life::{answers, ends, expect_true};
 use cpu_part::{BootName, Dropped};
 use group_tree::group::GroupId;
-use mem_system::{Audit, Boot, Cpu, ReplyWithText, System, TextCommand, boot};
+use mem_system::{Audit, Boot, Cpu, Outcome, System, TextCommand, boot};
 use std::alloc::Global;
 use std::marker::Brand;
 use std::process::Abort;
@@ -48,10 +48,10 @@ fn is_lent<N: BootName, R: Wait + Abort>(
         system,
         cpu,
         &TextCommand::Mkdir { path },
-        &ReplyWithText::Group(group),
+        &Outcome::Group(group),
     );
     let alloc = TextCommand::Alloc { path, order: 0 };
-    answers(rt, system, cpu, &alloc, &ReplyWithText::Frame(0));
+    answers(rt, system, cpu, &alloc, &Outcome::Frame(0));
     let tables = system.tables();
     let paid = tables.words.frame(0).expect(rt, "a frame");
     assert!(rt; cpu.has_fresh(paid));

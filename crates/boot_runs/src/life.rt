@@ -5,7 +5,7 @@ ghost use Rattle.mem_system.specs.{IsOfZone};
 use cpu_part::BootName;
 use group_tree::fault::Fault;
 use group_tree::group::GroupId;
-use mem_system::{Audit, Boot, Cpu, ReplyWithText, System, TextCommand, boot};
+use mem_system::{Audit, Boot, Cpu, Outcome, System, TextCommand, boot, serve_text, shown_text};
 use std::alloc::Global;
 use std::marker::Brand;
 use std::process::Abort;
@@ -28,34 +28,34 @@ pub fn expect_true(rt: &impl Abort, condition: bool) {
     assert!(rt; condition);
 }
 
-// The reply to the CPU in a visit. This function drops the clauses of `System::visit`, so a caller that needs only
-// the reply doesn't pay for them.
+// The outcome of a visit. This function drops the clauses of `System::visit`, so a caller that needs only the outcome
+// doesn't pay for them.
 fn visit<N: BootName, R: Wait>(
     rt: &R,
     system: &System<N>,
     cpu: &mut Cpu<N>,
     cmd: &TextCommand<'_>,
-) -> ReplyWithText
+) -> Outcome
     requires { IsOfZone N.table cmd.now }
 {
     system.visit(rt, cpu, cmd)
 }
 
-/// The CPU gets this reply in a visit.
+/// The CPU's visit has this outcome.
 pub fn answers<N: BootName, R: Wait + Abort>(
     rt: &R,
     system: &System<N>,
     cpu: &mut Cpu<N>,
     cmd: &TextCommand<'_>,
-    reply: &ReplyWithText,
+    outcome: &Outcome,
 )
     requires { IsOfZone N.table cmd.now }
 {
     let told = visit(rt, system, cpu, cmd);
-    expect_true(rt, told == *reply);
+    expect_true(rt, told == *outcome);
 }
 
-// The limit of `/a` reads as this text.
+// The limit of `/a` reads as this text, which is taken in the same hold of the lock.
 fn reads_limit<N: BootName, R: Wait + Abort>(
     rt: &R,
     system: &System<N>,
@@ -64,8 +64,14 @@ fn reads_limit<N: BootName, R: Wait + Abort>(
 ) {
     let path: &[u8] = b"/a";
     let file: &[u8] = b"memory.max";
-    match visit(rt, system, cpu, &TextCommand::Read { path, file }) {
-        ReplyWithText::Text(found) => expect_true(rt, found.as_bytes() == text),
+    let mut guard = system.lock(rt);
+    let locked = &mut *guard;
+    let read = TextCommand::Read { path, file };
+    match serve_text(locked, system.tables(), cpu, &read) {
+        Outcome::Text(group, file) => {
+            let found = shown_text(locked.charges(), group, file);
+            expect_true(rt, found.as_bytes() == text);
+        }
         _ => panic!(rt; "no text"),
     }
 }
@@ -82,12 +88,12 @@ fn makes_and_reads<N: BootName, R: Wait + Abort>(rt: &R, system: &System<N>, cpu
         system,
         cpu,
         &TextCommand::Mkdir { path },
-        &ReplyWithText::Group(group),
+        &Outcome::Group(group),
     );
     expect_true(rt, system.find(rt, cpu, path) == Some(group));
     reads_limit(rt, system, cpu, b"max\n");
     let write = TextCommand::Write { path, file, value };
-    answers(rt, system, cpu, &write, &ReplyWithText::Done);
+    answers(rt, system, cpu, &write, &Outcome::Done);
     reads_limit(rt, system, cpu, b"8192\n");
 }
 
@@ -110,14 +116,14 @@ fn shows_all_free<N: BootName, R: Wait + Abort>(
 // CPU 2 finds the group and removes it.
 fn removes_group<N: BootName, R: Wait + Abort>(rt: &R, system: &System<N>, cpu: &mut Cpu<N>) {
     let path: &[u8] = b"/a";
-    let no_group = ReplyWithText::Refused(Fault::NoGroup);
+    let no_group = Outcome::Refused(Fault::NoGroup);
     expect_true(rt, system.find(rt, cpu, path) == GroupId::of(1));
     answers(
         rt,
         system,
         cpu,
         &TextCommand::Rmdir { path },
-        &ReplyWithText::Done,
+        &Outcome::Done,
     );
     answers(rt, system, cpu, &TextCommand::Rmdir { path }, &no_group);
 }

@@ -98,18 +98,18 @@ zero_answer n e = elim e [
 
 pub refuses : (t : KnownTable) (s : KnownPasts) (f found : ℕ) (answer : Answer) (s' : KnownPasts) → IsCpuPast t s → s'.table ≡ s.table
     → get_answer found ≡ answer → (answer ≡ Held → ⊥) → Sees (zone_of_boot t) (own_past s) f found s'.pasts → CpuMakes t s (Get f) answer s'
-refuses t s f found answer s' is table says other told =
-    made t s (Get f) answer s' is table (subst (λ a. Made (zone_of_boot t) (own_past s) (Get f) a s'.pasts) says (told.refused (λ held. other (sym says ∙ held))))
+refuses t s f found answer s' is table says other post =
+    made t s (Get f) answer s' is table (subst (λ a. Made (zone_of_boot t) (own_past s) (Get f) a s'.pasts) says (post.refused (λ held. other (sym says ∙ held))))
 
 pub answers_zero : (t : KnownTable) (s : KnownPasts) (f found : ℕ) (s' : KnownPasts) → IsCpuPast t s → s'.table ≡ s.table
     → (found ≡ 0) ⊎ (((found ≡ 0) → ⊥) × (255 < found)) → Sees (zone_of_boot t) (own_past s) f found s'.pasts → CpuMakes t s (Get f) Zero s'
-answers_zero t s f found s' is table e told = refuses t s f found Zero s' is table (zero_answer found e) zero_not_held told
+answers_zero t s f found s' is table e post = refuses t s f found Zero s' is table (zero_answer found e) zero_not_held post
 
 pub answers_full : (t : KnownTable) (s : KnownPasts) (f found : ℕ) (s' : KnownPasts) → IsCpuPast t s → s'.table ≡ s.table
     → found ≡ 255 → Sees (zone_of_boot t) (own_past s) f found s'.pasts → CpuMakes t s (Get f) Full s'
-answers_full t s f found s' is table e told = refuses t s f found Full s' is table (ap get_answer e) full_not_held told
+answers_full t s f found s' is table e post = refuses t s f found Full s' is table (ap get_answer e) full_not_held post
 
 -- a load that finds 1 to 254 decides nothing: the seat has seen the word
 pub goes_on : (t : KnownTable) (s : KnownPasts) (f found : ℕ) (later : List Past) → ((found ≡ 0) → ⊥) → found ≤ 255 → ((found ≡ 255) → ⊥)
     → Sees (zone_of_boot t) (own_past s) f found later → SawWord (zone_of_boot t) (own_past s) f found later
-goes_on t s f found later some high room told = told.goes_on (held_answer found (omega (arith, some)) (omega (arith, high, room)))
+goes_on t s f found later some high room post = post.goes_on (held_answer found (omega (arith, some)) (omega (arith, high, room)))

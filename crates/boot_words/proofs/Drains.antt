@@ -7,6 +7,7 @@ use mathlib.Core.Option.{some}
 use native.Mathlib.Decide.{ℕ_discrete}
 use lib.ListN.{get_elem?}
 use Rattle.atomic_table.specs.Table.{State as Board}
+use Rattle.group_tree.specs.Bounds.{most_groups}
 use Rattle.stock_word.specs.declared.stock.Stock.{Stock}
 use Rattle.stock_word.specs.declared.stock.Stock.TheVariants.{NoGroup, HeldBy, DrainedOf}
 use Rattle.stock_word.specs.{HasWord, group_of, stock_pages_of, word_of, stock_index}
@@ -142,7 +143,7 @@ looks_to_drain t s cpu is legal =
     let r = stays zone b k id j n (z ∷ c ∷ []) at refl in
     (r.0, r.1, r.2, r.3, (r.4.0, record { is = there; none = λ e. absurd (ne e); looked = λ h. r.4.1 }))))
 
-pub drains : (t : KnownTable) (s : KnownPasts) (cpu g : ℕ) → IsHeld t s → MayMake t s 0 (DrainStock cpu) → ((local_by_pasts t s).parts cpu).stock.group ≡ Some g → g < 64
+pub drains : (t : KnownTable) (s : KnownPasts) (cpu g : ℕ) → IsHeld t s → MayMake t s 0 (DrainStock cpu) → ((local_by_pasts t s).parts cpu).stock.group ≡ Some g → g < most_groups
     → MayChange (zone_of_boot t) s.pasts (StockOf cpu) (λ n. word_of (DrainedOf g)) (Drains (zone_of_boot t) (own_past s) (cpu_past s) cpu)
 drains t s cpu g is legal group few =
     let zone = zone_of_boot t in
@@ -161,34 +162,34 @@ drains t s cpu g is legal group few =
     (r.0, r.1, r.2, r.3, (r.4.0, record { stock = there.stock; fits = there.fits; word = there.word; made = r.4.1 })))
 
 -- ---- the answers of a drain
-pub group_few : (s : Stock) (g : ℕ) → HasWord s → group_of s ≡ Some g → g < 64
+pub group_few : (s : Stock) (g : ℕ) → HasWord s → group_of s ≡ Some g → g < most_groups
 group_few NoGroup g h e = absurd (let a : None ≡ Some g = e in cc)
-group_few (HeldBy k n) g h e = let a : Some k ≡ Some g = e in let b : k ≡ g = cc in subst (λ x. x < 64) b h.0
-group_few (DrainedOf k) g h e = let a : Some k ≡ Some g = e in let b : k ≡ g = cc in subst (λ x. x < 64) b h
+group_few (HeldBy k n) g h e = let a : Some k ≡ Some g = e in let b : k ≡ g = cc in subst (λ x. x < most_groups) b h.0
+group_few (DrainedOf k) g h e = let a : Some k ≡ Some g = e in let b : k ≡ g = cc in subst (λ x. x < most_groups) b h
 
 -- a load that found a group is no step, and the seat is what it was
 pub looked_on : (t : KnownTable) (s : KnownPasts) (cpu found : ℕ) (s' : KnownPasts) (read : Stock) (g : ℕ) → IsHeld t s → s'.table ≡ s.table
-    → (told : LooksToDrain (zone_of_boot t) (own_past s) (cpu_past s) cpu found s'.pasts) → ((stock : Stock) → HasWord stock → found ≡ word_of stock → read ≡ stock) → group_of read ≡ Some g
-    → (s' ≡ s) × (((local_by_pasts t s).parts cpu).stock.group ≡ Some g) × (g < 64)
-looked_on t s cpu found s' read g is table told decodes group =
-    let stock = told.is.stock in
-    let read_is : read ≡ stock = decodes stock told.is.fits told.is.word in
+    → (post : LooksToDrain (zone_of_boot t) (own_past s) (cpu_past s) cpu found s'.pasts) → ((stock : Stock) → HasWord stock → found ≡ word_of stock → read ≡ stock) → group_of read ≡ Some g
+    → (s' ≡ s) × (((local_by_pasts t s).parts cpu).stock.group ≡ Some g) × (g < most_groups)
+looked_on t s cpu found s' read g is table post decodes group =
+    let stock = post.is.stock in
+    let read_is : read ≡ stock = decodes stock post.is.fits post.is.word in
     let has : group_of stock ≡ Some g = sym (ap group_of read_is) ∙ group in
-    let later = told.looked (λ none. some_word stock g has (sym told.is.word ∙ none)) in
-    ((λ i. record { table = table i; pasts = (later ∙ sym is.both) i }), sym told.is.group ∙ has, group_few stock g told.is.fits has)
+    let later = post.looked (λ none. some_word stock g has (sym post.is.word ∙ none)) in
+    ((λ i. record { table = table i; pasts = (later ∙ sym is.both) i }), sym post.is.group ∙ has, group_few stock g post.is.fits has)
 
 pub drained_none : (t : KnownTable) (s : KnownPasts) (cpu found : ℕ) (s' : KnownPasts) (read : Stock) → IsHeld t s → s'.table ≡ s.table
-    → (told : LooksToDrain (zone_of_boot t) (own_past s) (cpu_past s) cpu found s'.pasts) → ((stock : Stock) → HasWord stock → found ≡ word_of stock → read ≡ stock) → group_of read ≡ None
+    → (post : LooksToDrain (zone_of_boot t) (own_past s) (cpu_past s) cpu found s'.pasts) → ((stock : Stock) → HasWord stock → found ≡ word_of stock → read ≡ stock) → group_of read ≡ None
     → MakesStep t s 0 (DrainStock cpu) (Pages 0) s'
-drained_none t s cpu found s' read is table told decodes group =
-    let stock = told.is.stock in
-    let none : stock ≡ NoGroup = no_group stock (sym (ap group_of (decodes stock told.is.fits told.is.word)) ∙ group) in
-    held_made t s (record { seat = 0; action = DrainStock cpu }) (Pages 0) s' is table (told.none (told.is.word ∙ ap word_of none))
+drained_none t s cpu found s' read is table post decodes group =
+    let stock = post.is.stock in
+    let none : stock ≡ NoGroup = no_group stock (sym (ap group_of (decodes stock post.is.fits post.is.word)) ∙ group) in
+    held_made t s (record { seat = 0; action = DrainStock cpu }) (Pages 0) s' is table (post.none (post.is.word ∙ ap word_of none))
 
 pub drained_some : (t : KnownTable) (s : KnownPasts) (cpu found : ℕ) (s' : KnownPasts) (read : Stock) (pages : ℕ) → IsHeld t s → s'.table ≡ s.table
-    → (told : Drains (zone_of_boot t) (own_past s) (cpu_past s) cpu found s'.pasts) → ((stock : Stock) → HasWord stock → found ≡ word_of stock → read ≡ stock) → pages ≡ stock_pages_of read
+    → (post : Drains (zone_of_boot t) (own_past s) (cpu_past s) cpu found s'.pasts) → ((stock : Stock) → HasWord stock → found ≡ word_of stock → read ≡ stock) → pages ≡ stock_pages_of read
     → MakesStep t s 0 (DrainStock cpu) (Pages pages) s'
-drained_some t s cpu found s' read pages is table told decodes all =
+drained_some t s cpu found s' read pages is table post decodes all =
     held_made t s (record { seat = 0; action = DrainStock cpu }) (Pages pages) s' is table
     (subst (λ n. MadeHeld (zone_of_boot t) (own_past s) (cpu_past s) (record { seat = 0; action = DrainStock cpu }) (Pages n) s'.pasts)
-    (sym (all ∙ ap stock_pages_of (decodes told.stock told.fits told.word))) told.made)
+    (sym (all ∙ ap stock_pages_of (decodes post.stock post.fits post.word))) post.made)

@@ -26,10 +26,10 @@ pub record Made (zone : Zone) (p : Past) (action : Action) (answer : Answer) (la
   pub legal : IsLegalRun zone past.seen
   pub grew : GrewBy p (record { seat = p.number; action = action }) answer past
 
--- what a step that leaves x in word j makes of the table, and tells of the seat's pasts
+-- what a step that leaves x in word j makes of the table, and holds of the seat's pasts
 abbrev pub Leaves : Zone → Board (Unit {0}) (List Past) → ℕ → ℕ → ℕ → (List Past → Type 0) → Type 0
-Leaves zone s id j x told = (w : List Past) × (a : Act (Unit {0})) × Valid s.homes [] a × run_rule zone (stepped s j x id [] w a)
-    × ((carried_after [] a ≡ []) × told w)
+Leaves zone s id j x post = (w : List Past) × (a : Act (Unit {0})) × Valid s.homes [] a × run_rule zone (stepped s j x id [] w a)
+    × ((carried_after [] a ≡ []) × post w)
 
 fast_no_fill : (action : Action) → IsFast action → IsNoFill action
 fast_no_fill (Get f) fast = tt
@@ -91,10 +91,10 @@ makes zone s k id j x p action answer at ne fast legal changes =
     let r = makes_on zone s k id j x p action answer at ne fast legal changes in (r.0, r.1, r.2, r.3, (r.4.0, r.4.1.made))
 
 -- no step is made, and the seat's pasts become these
-pub sees_run : (zone : Zone) (s : Board (Unit {0}) (List Past)) (k : run_rule zone s) (id j x : ℕ) (old new : List Past) (told : List Past → Type 0) → get_elem? s.views id ≡ some old
-    → x ≡ slice_index s.words j → ((q : ℕ) → sum_over (of_number q) new ≡ sum_over (of_number q) old) → AllOf (BeginsRun zone k.run) new → told new
-    → Leaves zone s id j x told
-sees_run zone s k id j x old new told at same counts fits tells =
+pub sees_run : (zone : Zone) (s : Board (Unit {0}) (List Past)) (k : run_rule zone s) (id j x : ℕ) (old new : List Past) (post : List Past → Type 0) → get_elem? s.views id ≡ some old
+    → x ≡ slice_index s.words j → ((q : ℕ) → sum_over (of_number q) new ≡ sum_over (of_number q) old) → AllOf (BeginsRun zone k.run) new → post new
+    → Leaves zone s id j x post
+sees_run zone s k id j x old new post at same counts fits tells =
     (new, keeps, tt, notes_nothing zone s.words s.views k id j x old new at same counts fits, (refl, tells))
 
 pub stays : (zone : Zone) (s : Board (Unit {0}) (List Past)) (k : run_rule zone s) (id j x : ℕ) (old : List Past) → get_elem? s.views id ≡ some old → x ≡ slice_index s.words j

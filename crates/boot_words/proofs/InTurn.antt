@@ -35,7 +35,7 @@ use Rattle.boot_words.proofs.WordCounts.{none_live}
 use Rattle.boot_words.proofs.Following.{stands_in}
 use Rattle.boot_words.proofs.Parts.{frame_reads, words_set}
 use Rattle.boot_words.proofs.StockSteps.{report_low, stock_is_at, stock_words_set}
-use Rattle.boot_words.specs.declared.word.Word.TheVariants.{Quiet}
+use Rattle.boot_words.specs.declared.word.Word.TheVariants.{AlwaysZero}
 use Rattle.boot_words.proofs.Booking.{IsNoFill}
 use Rattle.boot_words.proofs.Fast.{Leaves}
 use Rattle.boot_words.proofs.UnderLock.{Stands, legal_end, of_held, shows_end, stands_at, steps_on}
@@ -148,7 +148,7 @@ passable_held s cpu f e =
 
 -- ---- lend
 pub may_lend : (zone : Zone) (z c : Past) (f : ℕ) → HoldsLock zone z c (local_seen zone c) → AreLegal (local_seen zone c) (lend_run c.number f)
-    → MayChange zone (z ∷ c ∷ []) Quiet (λ n. n) (λ found. MadeInTurn zone z c (lend_run c.number f))
+    → MayChange zone (z ∷ c ∷ []) AlwaysZero (λ n. n) (λ found. MadeInTurn zone z c (lend_run c.number f))
 may_lend zone z c f holds legal id b k homes at small =
     let q = c.number in
     let j = frame_base zone + f in
@@ -165,10 +165,10 @@ may_lend zone z c f holds legal id b k homes at small =
     ends zone b id z c steps (set sent j 0) two (set_over b.words j (mark q) 0 ∙ ap (set b.words j) (sym none) ∙ set-get_or b.words j 0)
 
 pub lends : (t : KnownTable) (s : KnownPasts) (cpu f : ℕ) → IsHeld t s → IsHolder s cpu → AreLegal (local_by_pasts t s) (lend_run cpu f)
-    → MayChange (zone_of_boot t) s.pasts Quiet (λ n. n) (λ found. MadeInTurn (zone_of_boot t) (own_past s) (cpu_past s) (lend_run cpu f))
+    → MayChange (zone_of_boot t) s.pasts AlwaysZero (λ n. n) (λ found. MadeInTurn (zone_of_boot t) (own_past s) (cpu_past s) (lend_run cpu f))
 lends t s cpu f is holder legal =
-    of_held t s Quiet (λ n. n) (λ found. MadeInTurn (zone_of_boot t) (own_past s) (cpu_past s) (lend_run cpu f)) is
-    (subst (λ q. MayChange (zone_of_boot t) (own_past s ∷ cpu_past s ∷ []) Quiet (λ n. n) (λ found. MadeInTurn (zone_of_boot t) (own_past s) (cpu_past s) (lend_run q f))) (sym holder)
+    of_held t s AlwaysZero (λ n. n) (λ found. MadeInTurn (zone_of_boot t) (own_past s) (cpu_past s) (lend_run cpu f)) is
+    (subst (λ q. MayChange (zone_of_boot t) (own_past s ∷ cpu_past s ∷ []) AlwaysZero (λ n. n) (λ found. MadeInTurn (zone_of_boot t) (own_past s) (cpu_past s) (lend_run q f))) (sym holder)
     (may_lend (zone_of_boot t) (own_past s) (cpu_past s) f is.holds (subst (λ q. AreLegal (local_by_pasts t s) (lend_run q f)) holder legal)))
 
 -- ---- take_back
@@ -226,7 +226,7 @@ frame_at_cpu zone words seats id z c f st legal absorbed =
     }
 
 pub may_take_back : (zone : Zone) (z c : Past) (f : ℕ) → HoldsLock zone z c (local_seen zone c) → AreLegal (local_seen zone c) (take_back_run c.number f)
-    → ((local_seen zone c).parts c.number).reported ≡ 0 → MayChange zone (z ∷ c ∷ []) Quiet (λ n. n) (λ found. MadeInTurn zone z c (take_back_run c.number f))
+    → ((local_seen zone c).parts c.number).reported ≡ 0 → MayChange zone (z ∷ c ∷ []) AlwaysZero (λ n. n) (λ found. MadeInTurn zone z c (take_back_run c.number f))
 may_take_back zone z c f holds legal absorbed id b k homes at small =
     let q = c.number in
     let j = frame_base zone + f in
@@ -253,9 +253,9 @@ may_take_back zone z c f holds legal absorbed id b k homes at small =
 
 pub takes_back : (t : KnownTable) (s : KnownPasts) (cpu f : ℕ) → IsHeld t s → IsHolder s cpu → AreLegal (local_by_pasts t s) (take_back_run cpu f)
     → ((local_by_pasts t s).parts cpu).reported ≡ 0
-    → MayChange (zone_of_boot t) s.pasts Quiet (λ n. n) (λ found. MadeInTurn (zone_of_boot t) (own_past s) (cpu_past s) (take_back_run cpu f))
+    → MayChange (zone_of_boot t) s.pasts AlwaysZero (λ n. n) (λ found. MadeInTurn (zone_of_boot t) (own_past s) (cpu_past s) (take_back_run cpu f))
 takes_back t s cpu f is holder legal absorbed =
-    of_held t s Quiet (λ n. n) (λ found. MadeInTurn (zone_of_boot t) (own_past s) (cpu_past s) (take_back_run cpu f)) is
-    (subst (λ q. MayChange (zone_of_boot t) (own_past s ∷ cpu_past s ∷ []) Quiet (λ n. n) (λ found. MadeInTurn (zone_of_boot t) (own_past s) (cpu_past s) (take_back_run q f))) (sym holder)
+    of_held t s AlwaysZero (λ n. n) (λ found. MadeInTurn (zone_of_boot t) (own_past s) (cpu_past s) (take_back_run cpu f)) is
+    (subst (λ q. MayChange (zone_of_boot t) (own_past s ∷ cpu_past s ∷ []) AlwaysZero (λ n. n) (λ found. MadeInTurn (zone_of_boot t) (own_past s) (cpu_past s) (take_back_run q f))) (sym holder)
     (may_take_back (zone_of_boot t) (own_past s) (cpu_past s) f is.holds (subst (λ q. AreLegal (local_by_pasts t s) (take_back_run q f)) holder legal)
     (subst (λ q. ((local_by_pasts t s).parts q).reported ≡ 0) holder absorbed)))

@@ -30,7 +30,7 @@ use Rattle.boot_words.proofs.Owning.{lists_are_own}
 use Rattle.boot_words.proofs.Resting.{zone_rests}
 use Rattle.boot_words.proofs.Each.{all_at}
 use Rattle.boot_words.proofs.HolderSteps.{same_seen}
-use Rattle.boot_words.specs.declared.word.Word.TheVariants.{Quiet, StockOf}
+use Rattle.boot_words.specs.declared.word.Word.TheVariants.{AlwaysZero, StockOf}
 use Rattle.boot_words.proofs.Growing.{free_holder, past_of_run}
 use Rattle.boot_words.proofs.UnderLock.{fits_both, only_holder, plain_step, shows_end, stands_at}
 
@@ -51,7 +51,7 @@ not_none zone cpu is none = let range = cpu_range zone cpu is in let low = range
 pub in_range : (zone : Zone) (cpu : ℕ) → 1 ≤ cpu → cpu ≤ zone.cpus → is_cpu zone cpu ≡ true
 in_range zone cpu low high = grind arith
 
-may_lock : (zone : Zone) (z c : Past) → z.number ≡ 0 → is_cpu zone c.number ≡ true → LeavesFree zone z → MayChange zone (z ∷ c ∷ []) Quiet (λ n. n) (Takes zone z c)
+may_lock : (zone : Zone) (z c : Past) → z.number ≡ 0 → is_cpu zone c.number ≡ true → LeavesFree zone z → MayChange zone (z ∷ c ∷ []) AlwaysZero (λ n. n) (Takes zone z c)
 may_lock zone z c zone_is cpu free id s k homes at small =
     let q = c.number in
     let all = all_at (AllOf (BeginsRun zone k.run)) s.views id (z ∷ c ∷ []) at k.fits in
@@ -193,10 +193,10 @@ may_unlock zone z c holds legal id s k homes at small =
 
 -- ---- to the contracts of lock and unlock
 pub locks : (t : KnownTable) (z c s : KnownPasts) → IsZonePast t z → IsCpuPast t c → LeavesFree (zone_of_boot t) (own_past z) → s.pasts ≡ z.pasts ++ c.pasts
-    → MayChange (zone_of_boot t) s.pasts Quiet (λ n. n) (Takes (zone_of_boot t) (own_past s) (cpu_past s))
+    → MayChange (zone_of_boot t) s.pasts AlwaysZero (λ n. n) (Takes (zone_of_boot t) (own_past s) (cpu_past s))
 locks t z c s zone cpu free is =
     let table = zone_of_boot t in
-    subst (λ (l : List Past). MayChange table l Quiet (λ n. n) (Takes table (first_past l) (second_past l))) (sym (is ∙ (λ i. zone.alone i ++ cpu.alone i)))
+    subst (λ (l : List Past). MayChange table l AlwaysZero (λ n. n) (Takes table (first_past l) (second_past l))) (sym (is ∙ (λ i. zone.alone i ++ cpu.alone i)))
     (may_lock table (own_past z) (own_past c) zone.zone_is (in_range table (own_past c).number cpu.low cpu.high) free)
 
 pub locked : (t : KnownTable) (z c s : KnownPasts) (found : ℕ) → s.table ≡ t.table → Takes (zone_of_boot t) (own_past z) (own_past c) found s.pasts → Locks t z c s

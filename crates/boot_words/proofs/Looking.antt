@@ -1,6 +1,7 @@
 -- Loads under the lock that are no step.
 use Rattle.std.proofs.Common.{[], ◌≡◌, ℕ, ◌+◌, ◌<◌, ◌≤◌, true, List, ◌∷◌, refl, ap, sym, ◌∙◌, subst, arith}
 use Rattle.std.specs.Prelude.{slice_index, IfSome}
+use Rattle.group_tree.specs.Bounds.{most_groups}
 use Rattle.stock_word.specs.declared.stock.Stock.{Stock}
 use Rattle.stock_word.specs.declared.stock.Stock.TheVariants.{DrainedOf, HeldBy, NoGroup}
 use Rattle.stock_word.specs.{HasWord, group_of, word_of, stock_index}
@@ -53,8 +54,8 @@ sees_stock t s cpu is holder =
 
 pub stock_is : (t : KnownTable) (s : KnownPasts) (cpu found : ℕ) (later : List Past) (stock : Stock) → IsHolder s cpu → SeesStock (zone_of_boot t) (own_past s) (cpu_past s) found later
     → ((k : Stock) → HasWord k → found ≡ word_of k → stock ≡ k) → stock ≡ stock_in ((local_by_pasts t s).parts cpu)
-stock_is t s cpu found later stock holder told decodes =
-    decodes (stock_in ((local_by_pasts t s).parts (cpu_past s).number)) told.fits told.word ∙ ap (λ q. stock_in ((local_by_pasts t s).parts q)) (sym holder)
+stock_is t s cpu found later stock holder post decodes =
+    decodes (stock_in ((local_by_pasts t s).parts (cpu_past s).number)) post.fits post.word ∙ ap (λ q. stock_in ((local_by_pasts t s).parts q)) (sym holder)
 
 -- ---- the group of any stock
 pub record SeesGroup (zone : Zone) (z c : Past) (cpu found : ℕ) (later : List Past) : Type 0 where
@@ -74,19 +75,19 @@ sees_group t s cpu is low high =
     let r = stays zone b k id j (slice_index b.words j) (z ∷ c ∷ []) at refl in
     (r.0, r.1, r.2, r.3, (r.4.0, record { is = there; later_is = r.4.1 })))
 
-pub group_is : (t : KnownTable) (s : KnownPasts) (cpu found : ℕ) (later : List Past) (stock : Stock) → (told : SeesGroup (zone_of_boot t) (own_past s) (cpu_past s) cpu found later)
+pub group_is : (t : KnownTable) (s : KnownPasts) (cpu found : ℕ) (later : List Past) (stock : Stock) → (post : SeesGroup (zone_of_boot t) (own_past s) (cpu_past s) cpu found later)
     → ((k : Stock) → HasWord k → found ≡ word_of k → stock ≡ k) → group_of stock ≡ ((local_by_pasts t s).parts cpu).stock.group
-group_is t s cpu found later stock told decodes = ap group_of (decodes told.is.stock told.is.fits told.is.word) ∙ told.is.group
+group_is t s cpu found later stock post decodes = ap group_of (decodes post.is.stock post.is.fits post.is.word) ∙ post.is.group
 
-few_group : (stock : Stock) → HasWord stock → IfSome (group_of stock) (λ g. g < 64)
+few_group : (stock : Stock) → HasWord stock → IfSome (group_of stock) (λ g. g < most_groups)
 few_group NoGroup h = tt
 few_group (HeldBy g n) h = h.0
 few_group (DrainedOf g) h = h
 
-pub group_fits : (t : KnownTable) (s : KnownPasts) (cpu found : ℕ) (later : List Past) (stock : Stock) → (told : SeesGroup (zone_of_boot t) (own_past s) (cpu_past s) cpu found later)
-    → ((k : Stock) → HasWord k → found ≡ word_of k → stock ≡ k) → IfSome (group_of stock) (λ g. g < 64)
-group_fits t s cpu found later stock told decodes =
-    subst (λ k. IfSome (group_of k) (λ g. g < 64)) (sym (decodes told.is.stock told.is.fits told.is.word)) (few_group told.is.stock told.is.fits)
+pub group_fits : (t : KnownTable) (s : KnownPasts) (cpu found : ℕ) (later : List Past) (stock : Stock) → (post : SeesGroup (zone_of_boot t) (own_past s) (cpu_past s) cpu found later)
+    → ((k : Stock) → HasWord k → found ≡ word_of k → stock ≡ k) → IfSome (group_of stock) (λ g. g < most_groups)
+group_fits t s cpu found later stock post decodes =
+    subst (λ k. IfSome (group_of k) (λ g. g < most_groups)) (sym (decodes post.is.stock post.is.fits post.is.word)) (few_group post.is.stock post.is.fits)
 
 -- ---- references
 pub record SeesReferences (t : KnownTable) (s : KnownPasts) (f found : ℕ) (later : List Past) : Type 0 where

@@ -14,7 +14,7 @@ use Rattle.boot_words.specs.{IsPlain, KnownPasts, IsHeld, cpu_past, local_by_pas
 use Rattle.boot_words.specs.declared.past.Past.{Past}
 use Rattle.boot_words.proofs.Grown.{grown}
 use Rattle.boot_words.proofs.HolderSteps.{legal_now, next_holds}
-use Rattle.boot_words.specs.declared.word.Word.TheVariants.{Quiet}
+use Rattle.boot_words.specs.declared.word.Word.TheVariants.{AlwaysZero}
 use Rattle.boot_words.proofs.UnderLock.{MadeHeld, fits_both, only_holder, plain_step, shows_end, stands_at}
 
 plain_counted : (s : State) (action : Action) (answer : Answer) → IsPlain action → IsCounted s action answer
@@ -23,13 +23,13 @@ plain_counted s action answer plain = search rules
 
 pub makes_plain : (t : KnownTable) (s : KnownPasts) (made_step : Step) (answer : Answer) → IsHeld t s → IsPlain made_step.action
     → IsLocalStep (local_by_pasts t s) (cpu_past s).number made_step.seat made_step.action answer
-    → MayChange (zone_of_boot t) s.pasts Quiet (λ n. n) (λ found. MadeHeld (zone_of_boot t) (own_past s) (cpu_past s) made_step answer)
+    → MayChange (zone_of_boot t) s.pasts AlwaysZero (λ n. n) (λ found. MadeHeld (zone_of_boot t) (own_past s) (cpu_past s) made_step answer)
 makes_plain t s made_step answer is plain is_step =
     let zone = zone_of_boot t in
     let z = own_past s in
     let c = cpu_past s in
     let e : Step × Answer = (made_step, answer) in
-    subst (λ (l : List Past). MayChange zone l Quiet (λ n. n) (λ found. MadeHeld zone z c made_step answer)) (sym is.both)
+    subst (λ (l : List Past). MayChange zone l AlwaysZero (λ n. n) (λ found. MadeHeld zone z c made_step answer)) (sym is.both)
     (λ id b k homes at small.
     let st = stands_at zone b k id z c at is.holds in
     let fit = fits_both zone b.words b.views id z c st in

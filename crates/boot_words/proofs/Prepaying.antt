@@ -7,10 +7,11 @@ use lib.ListN.{get_elem?}
 use prog.Atomic.{either}
 use Rattle.atomic_table.specs.Table.{State as Board}
 use Rattle.atomic_table.proofs.Lists.{exchanged}
+use Rattle.group_tree.specs.Bounds.{most_groups}
 use Rattle.stock_word.specs.declared.stock.Stock.{Stock}
 use Rattle.stock_word.specs.declared.stock.Stock.TheVariants.{NoGroup, HeldBy, DrainedOf}
 use Rattle.stock_word.specs.{HasWord, drained_of, word_of, stock_index}
-use Rattle.stock_word.proofs.Stocks.{held_word}
+use Rattle.stock_word.proofs.Stocks.{same_word}
 use Rattle.stock_word.specs.Stock.{group_base}
 use Rattle.step_rules.specs.declared.step.Action.{Action}
 use Rattle.step_rules.specs.declared.step.Action.TheVariants.{Consume, Credit}
@@ -32,22 +33,6 @@ use Rattle.boot_words.proofs.Calling.{made}
 use Rattle.boot_words.proofs.Fast.{Leaves, Made, legal_still, makes_on, past_begins}
 use Rattle.boot_words.proofs.Booking.{AreSmall}
 use Rattle.boot_words.proofs.Growing.{fast_hold}
-
--- ---- a word says one stock
-drained_word : (s : Stock) (g : ℕ) → HasWord s → g < 64 → word_of s ≡ word_of (DrainedOf g) → s ≡ DrainedOf g
-drained_word NoGroup g h a e = let c : 0 ≡ 4294967296 + (g + 1) * 65536 = e in absurd (omega arith)
-drained_word (HeldBy k m) g h a e = let c : (k + 1) * 65536 + m ≡ 4294967296 + (g + 1) * 65536 = e in absurd (omega (arith, h.0, h.1))
-drained_word (DrainedOf k) g h a e = let c : 4294967296 + (k + 1) * 65536 ≡ 4294967296 + (g + 1) * 65536 = e in let d : k ≡ g = omega arith in ap DrainedOf d
-
-no_word : (s : Stock) → word_of s ≡ 0 → s ≡ NoGroup
-no_word NoGroup e = refl
-no_word (HeldBy k m) e = let c : (k + 1) * 65536 + m ≡ 0 = e in absurd (omega arith)
-no_word (DrainedOf k) e = let c : 4294967296 + (k + 1) * 65536 ≡ 0 = e in absurd (omega arith)
-
-pub same_word : (s r : Stock) → HasWord s → HasWord r → word_of s ≡ word_of r → s ≡ r
-same_word s NoGroup h k e = no_word s e
-same_word s (HeldBy g n) h k e = held_word s g n h k.0 k.1 e
-same_word s (DrainedOf g) h k e = drained_word s g h k e
 
 -- ---- drains of a stock that the CPU saw
 said_drained : (o : Option ℕ) (n : ℕ) (d : Bool) → stock_said o 0 (is_some o) ≡ drained_of (stock_said o n d)
@@ -119,7 +104,7 @@ not_zero n low none = absurd (omega (arith, low, none))
 
 exchange_page : (zone : Zone) (p : Past) (action : Action) (answer : Answer) (g n m : ℕ) → 1 ≤ p.number → p.number ≤ zone.cpus → IsFast action
     → is_legal (state_of zone p.seen) p.number action ≡ true → holds_lock p.number (state_of zone p.seen).hold ≡ false
-    → SawLast (stock_in ((state_of zone p.seen).parts p.number)) (HeldBy g n) → g < 64 → n < group_base
+    → SawLast (stock_in ((state_of zone p.seen).parts p.number)) (HeldBy g n) → g < most_groups → n < group_base
     → ((s : State) → KeepsInvariant s → AreSmall s → is_legal s p.number action ≡ true → stock_in (s.parts p.number) ≡ HeldBy g n → m < group_base)
     → ((words : List ℕ) → m < group_base → stock_word_at (words_in zone words) p.number ≡ word_of (HeldBy g n)
     → ChangesWords zone (words_in zone words) p.number action answer (with_stock_word (words_in zone words) p.number (word_of (HeldBy g m))))

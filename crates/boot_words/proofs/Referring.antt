@@ -45,7 +45,7 @@ word_positive zone words run seat f is legal =
     let found = stands.frames.frame f below ∙ live_word s f (live_from_one s seat f stands.sound one) (live_references s f) in
     omega (arith, one, part, found)
 
--- what a put's subtraction tells
+-- the postcondition of a put's subtraction
 pub record Puts (zone : Zone) (p : Past) (f found : ℕ) (later : List Past) : Type 0 where
   pub some : 1 ≤ found
   pub made : Made zone p (Put f) (put_answer_at found) later
@@ -87,7 +87,7 @@ pub record SawWord (zone : Zone) (p : Past) (f found : ℕ) (later : List Past) 
   pub is : frame_word (state_of zone past.seen) f ≡ found
   pub few : ((state_of zone p.seen).parts p.number).book < group_base
 
--- what a get's load tells: it is the step itself if the word refuses a reference
+-- the postcondition of a get's load: it is the step itself if the word refuses a reference
 pub record Sees (zone : Zone) (p : Past) (f found : ℕ) (later : List Past) : Type 0 where
   pub refused : get_answer found ≢ Held → Made zone p (Get f) (get_answer found) later
   pub goes_on : get_answer found ≡ Held → SawWord zone p f found later

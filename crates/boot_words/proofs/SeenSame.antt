@@ -19,7 +19,7 @@ use Rattle.boot_words.proofs.Holding.{take_length}
 use Rattle.boot_words.proofs.Owning.{lists_are_own}
 use Rattle.boot_words.proofs.Resting.{zone_rests}
 use Rattle.boot_words.proofs.Each.{all_at}
-use Rattle.boot_words.specs.declared.word.Word.TheVariants.{Quiet}
+use Rattle.boot_words.specs.declared.word.Word.TheVariants.{AlwaysZero}
 use Rattle.boot_words.proofs.Fast.{sees_run}
 use Rattle.boot_words.proofs.Growing.{past_of_run}
 use Rattle.boot_words.proofs.Locking.{Takes, in_range, locked, not_none}
@@ -39,7 +39,7 @@ pub record SeeSame (zone : Zone) (z c : Past) (found : ℕ) (later : List Past) 
   pub left : hide (state_of zone zone_past.seen) ≡ hide (state_of zone z.seen)
   pub own : HasSameLists c.number (state_of zone c.seen) (state_of zone cpu_past.seen)
 
-may_meet : (zone : Zone) (z c : Past) → z.number ≡ 0 → is_cpu zone c.number ≡ true → LeavesFree zone z → MayChange zone (z ∷ c ∷ []) Quiet (λ n. n) (SeeSame zone z c)
+may_meet : (zone : Zone) (z c : Past) → z.number ≡ 0 → is_cpu zone c.number ≡ true → LeavesFree zone z → MayChange zone (z ∷ c ∷ []) AlwaysZero (λ n. n) (SeeSame zone z c)
 may_meet zone z c zone_is cpu free id s k homes at small =
     let all = all_at (AllOf (BeginsRun zone k.run)) s.views id (z ∷ c ∷ []) at k.fits in
     let zone_goes = all.0.goes in
@@ -60,10 +60,10 @@ may_meet zone z c zone_is cpu free id s k homes at small =
     })
 
 pub meets : (t : KnownTable) (z c s : KnownPasts) → IsZonePast t z → IsCpuPast t c → LeavesFree (zone_of_boot t) (own_past z) → s.pasts ≡ z.pasts ++ c.pasts
-    → MayChange (zone_of_boot t) s.pasts Quiet (λ n. n) (SeeSame (zone_of_boot t) (own_past s) (cpu_past s))
+    → MayChange (zone_of_boot t) s.pasts AlwaysZero (λ n. n) (SeeSame (zone_of_boot t) (own_past s) (cpu_past s))
 meets t z c s zone cpu free is =
     let table = zone_of_boot t in
-    subst (λ (l : List Past). MayChange table l Quiet (λ n. n) (SeeSame table (first_past l) (second_past l))) (sym (is ∙ (λ i. zone.alone i ++ cpu.alone i)))
+    subst (λ (l : List Past). MayChange table l AlwaysZero (λ n. n) (SeeSame table (first_past l) (second_past l))) (sym (is ∙ (λ i. zone.alone i ++ cpu.alone i)))
     (may_meet table (own_past z) (own_past c) zone.zone_is (in_range table (own_past c).number cpu.low cpu.high) free)
 
 pub met : (t : KnownTable) (z c z' c' : KnownPasts) (pasts : List Past) (found : ℕ) → IsZonePast t z → IsCpuPast t c → SeeSame (zone_of_boot t) (own_past z) (own_past c) found pasts
@@ -145,14 +145,14 @@ joined_pasts t z c s zone cpu is = is ∙ (λ i. zone.alone i ++ cpu.alone i)
 
 pub lock_last : (t : KnownTable) (z : KnownPasts) (c : KnownCpuSeat) (s later : KnownPasts) (found : ℕ) → IsZonePast t z → IsAwayCpu t c → s.pasts ≡ z.pasts ++ c.past.pasts → later.table ≡ t.table
     → Takes (zone_of_boot t) (own_past s) (cpu_past s) found later.pasts → SawLast (stock_in ((local_by_pasts t later).parts c.number)) c.last
-lock_last t z c s later found zone is joined table told =
+lock_last t z c s later found zone is joined table post =
     lock_finds t z c later is (locked t z c.past later found table
-    (subst (λ (l : List Past). Takes (zone_of_boot t) (first_past l) (second_past l) found later.pasts) (joined_pasts t z c.past s zone is.past joined) told))
+    (subst (λ (l : List Past). Takes (zone_of_boot t) (first_past l) (second_past l) found later.pasts) (joined_pasts t z c.past s zone is.past joined) post))
 
 pub meet_knows : (t : KnownTable) (z : KnownPasts) (c : KnownCpuSeat) (s c' : KnownPasts) (pasts : List Past) (found : ℕ) → IsZonePast t z → IsAwayCpu t c → s.pasts ≡ z.pasts ++ c.past.pasts
     → SeeSame (zone_of_boot t) (own_past s) (cpu_past s) found pasts → c' ≡ record { table = t.table; pasts = rest_of pasts }
     → IsAwayCpu t (record { past = c'; number = c.number; last = c.last })
-meet_knows t z c s c' pasts found zone is joined told cpu_is =
+meet_knows t z c s c' pasts found zone is joined post cpu_is =
     let m = met t z c.past (record { table = t.table; pasts = first_alone pasts }) c' pasts found zone is.past
-    (subst (λ (l : List Past). SeeSame (zone_of_boot t) (first_past l) (second_past l) found pasts) (joined_pasts t z c.past s zone is.past joined) told) refl cpu_is in
+    (subst (λ (l : List Past). SeeSame (zone_of_boot t) (first_past l) (second_past l) found pasts) (joined_pasts t z c.past s zone is.past joined) post) refl cpu_is in
     knows_since t c c' is m.cpu_is m.cpu_sees

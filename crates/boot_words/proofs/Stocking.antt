@@ -1,11 +1,11 @@
 -- Stocks and reports.
-use Rattle.std.proofs.Common.{◌≡◌, ℕ, ◌+◌, ◌-◌, ◌*◌, ◌<◌, ◌≤◌, Bool, true, false, Option, Some, None, List, length, refl, sym, ◌∙◌, ap, subst, arith}
+use Rattle.std.proofs.Common.{◌≡◌, ℕ, ◌+◌, ◌-◌, ◌≤◌, Bool, true, false, Option, Some, None, List, length, refl, sym, ◌∙◌, ap, subst, arith}
 use Rattle.std.specs.Prelude.{slice_set, is_some}
 use Rattle.std.proofs.lemmas.Bool.{leb-true}
 use Rattle.stock_word.specs.declared.stock.Stock.{Stock}
 use Rattle.stock_word.specs.declared.stock.Stock.TheVariants.{NoGroup, HeldBy, DrainedOf}
 use Rattle.stock_word.specs.{word_of, HasWord, stock_pages_of, group_of, stock_index, report_index}
-use Rattle.stock_word.proofs.Stocks.{held_word}
+use Rattle.stock_word.proofs.Stocks.{same_word}
 use Rattle.step_rules.specs.declared.phase.Way.TheVariants.{OnList}
 use Rattle.step_rules.specs.declared.phase.Phase.{Phase}
 use Rattle.step_rules.specs.declared.phase.Phase.TheVariants.{Lent}
@@ -24,22 +24,6 @@ use Rattle.boot_words.specs.Words.{Words, AreStockWords, word_in_phase, frame_wo
 use Rattle.boot_words.specs.Steps.{stock_word_at, report_word_at, ExchangesStock, FindsStock, LeavesDrained, OfGroup, OfNone}
 use Rattle.boot_words.proofs.WordLists.{frames_same, stock_set, report_set, stocks_same}
 use Rattle.boot_words.proofs.Following.{Stands, Follows, same_stocks, visited_cpu}
-
--- ---- a word says one stock
-drained_word : (s : Stock) (g : ℕ) → HasWord s → g < 64 → word_of s ≡ word_of (DrainedOf g) → s ≡ DrainedOf g
-drained_word NoGroup g h a e = let c : 0 ≡ 4294967296 + (g + 1) * 65536 = e in absurd (omega arith)
-drained_word (HeldBy k m) g h a e = let c : (k + 1) * 65536 + m ≡ 4294967296 + (g + 1) * 65536 = e in absurd (omega (arith, h.0, h.1))
-drained_word (DrainedOf k) g h a e = let c : 4294967296 + (k + 1) * 65536 ≡ 4294967296 + (g + 1) * 65536 = e in let d : k ≡ g = omega arith in ap DrainedOf d
-
-no_word : (s : Stock) → word_of s ≡ 0 → s ≡ NoGroup
-no_word NoGroup e = refl
-no_word (HeldBy k m) e = let c : (k + 1) * 65536 + m ≡ 0 = e in absurd (omega arith)
-no_word (DrainedOf k) e = let c : 4294967296 + (k + 1) * 65536 ≡ 0 = e in absurd (omega arith)
-
-same_word : (s r : Stock) → HasWord s → HasWord r → word_of s ≡ word_of r → s ≡ r
-same_word s NoGroup h k e = no_word s e
-same_word s (HeldBy g n) h k e = held_word s g n h k.0 k.1 e
-same_word s (DrainedOf g) h k e = drained_word s g h k e
 
 -- ---- what the stock of a part says of its group, its pages, and whether it was drained
 held_parts : (o : Option ℕ) (n : ℕ) (d : Bool) (g m : ℕ) → stock_said o n d ≡ HeldBy g m → (o ≡ Some g) × (n ≡ m) × (d ≡ false)

@@ -149,9 +149,9 @@ held_made t s step answer s' is table m =
     })
 
 -- the holder's seat in contracts, as the rule sees it
-pub of_held : (t : KnownTable) (s : KnownPasts) (word : Word) (change : ℕ → ℕ) (told : ℕ → List Past → Type 0) → IsHeld t s
-    → MayChange (zone_of_boot t) (own_past s ∷ cpu_past s ∷ []) word change told → MayChange (zone_of_boot t) s.pasts word change told
-of_held t s word change told is may = subst (λ (l : List Past). MayChange (zone_of_boot t) l word change told) (sym is.both) may
+pub of_held : (t : KnownTable) (s : KnownPasts) (word : Word) (change : ℕ → ℕ) (post : ℕ → List Past → Type 0) → IsHeld t s
+    → MayChange (zone_of_boot t) (own_past s ∷ cpu_past s ∷ []) word change post → MayChange (zone_of_boot t) s.pasts word change post
+of_held t s word change post is may = subst (λ (l : List Past). MayChange (zone_of_boot t) l word change post) (sym is.both) may
 
 -- ---- steps that no word is of
 plain_no_fill : (action : Action) → IsPlain action → IsNoFill action

@@ -35,16 +35,16 @@ pub holder_of_held : (t : KnownTable) (s : KnownPasts) (cpu : ℕ) → IsHeld t 
 holder_of_held t s cpu is holder = subst (λ n. (1 ≤ n) × (n ≤ t.cpus)) (sym holder) (cpu_of_held t s is)
 
 -- ---- pass_back and collect
-abbrev pub passes_told : Zone → Past → Past → ℕ → ℕ → List Past → Type 0
-passes_told zone z c f found = MadeHeld zone z c (record { seat = c.number; action = PassBack f }) Done
+abbrev pub passes_post : Zone → Past → Past → ℕ → ℕ → List Past → Type 0
+passes_post zone z c f found = MadeHeld zone z c (record { seat = c.number; action = PassBack f }) Done
 
 pub passes_back_held : (t : KnownTable) (s : KnownPasts) (cpu f : ℕ) → IsHeld t s → IsHolder s cpu → MayMake t s cpu (PassBack f)
-    → MayChange (zone_of_boot t) s.pasts (OfFrame f) (λ n. mark cpu) (λ found. passes_told (zone_of_boot t) (own_past s) (cpu_past s) f (mark cpu))
+    → MayChange (zone_of_boot t) s.pasts (OfFrame f) (λ n. mark cpu) (λ found. passes_post (zone_of_boot t) (own_past s) (cpu_past s) f (mark cpu))
 passes_back_held t s cpu f is holder legal =
     let zone = zone_of_boot t in
     let z = own_past s in
     let c = cpu_past s in
-    of_held t s (OfFrame f) (λ n. mark cpu) (λ found. passes_told zone z c f (mark cpu)) is
+    of_held t s (OfFrame f) (λ n. mark cpu) (λ found. passes_post zone z c f (mark cpu)) is
     (λ id b k homes at small.
     held_makes zone b k id (frame_base zone + f) (mark cpu) z c (record { seat = c.number; action = PassBack f }) Done at is.holds (inr refl) refl tt
     (subst (λ q. MayMake t s q (PassBack f)) holder legal)
@@ -52,58 +52,58 @@ passes_back_held t s cpu f is holder legal =
     (words_set zone f (mark c.number) b.words)))
 
 pub passed_back_made : (t : KnownTable) (s : KnownPasts) (cpu f found : ℕ) (s' : KnownPasts) → IsHeld t s → IsHolder s cpu → s'.table ≡ s.table
-    → passes_told (zone_of_boot t) (own_past s) (cpu_past s) f found s'.pasts → MakesStep t s cpu (PassBack f) Done s'
-passed_back_made t s cpu f found s' is holder table told =
-    subst (λ q. MakesStep t s q (PassBack f) Done s') (sym holder) (held_made t s (record { seat = (cpu_past s).number; action = PassBack f }) Done s' is table told)
+    → passes_post (zone_of_boot t) (own_past s) (cpu_past s) f found s'.pasts → MakesStep t s cpu (PassBack f) Done s'
+passed_back_made t s cpu f found s' is holder table post =
+    subst (λ q. MakesStep t s q (PassBack f) Done s') (sym holder) (held_made t s (record { seat = (cpu_past s).number; action = PassBack f }) Done s' is table post)
 
 pub frame_of_pass_back : (t : KnownTable) (s : KnownPasts) (cpu f : ℕ) → MayMake t s cpu (PassBack f) → f < t.frames
 frame_of_pass_back t s cpu f legal =
     below_frames (zone_of_boot t) f (ap (λ z. is_frame z f) (sym (zone_seen t s)) ∙ (pass_back_tests (local_by_pasts t s) cpu f legal).1)
 
-abbrev pub collects_told : Zone → Past → Past → ℕ → ℕ → List Past → Type 0
-collects_told zone z c f found = MadeHeld zone z c (record { seat = 0; action = Collect f c.number }) Done
+abbrev pub collects_post : Zone → Past → Past → ℕ → ℕ → List Past → Type 0
+collects_post zone z c f found = MadeHeld zone z c (record { seat = 0; action = Collect f c.number }) Done
 
 pub collects_held : (t : KnownTable) (s : KnownPasts) (cpu f : ℕ) → IsHeld t s → IsHolder s cpu → MayMake t s 0 (Collect f cpu)
-    → MayChange (zone_of_boot t) s.pasts (OfFrame f) (λ n. 0) (λ found. collects_told (zone_of_boot t) (own_past s) (cpu_past s) f 0)
+    → MayChange (zone_of_boot t) s.pasts (OfFrame f) (λ n. 0) (λ found. collects_post (zone_of_boot t) (own_past s) (cpu_past s) f 0)
 collects_held t s cpu f is holder legal =
     let zone = zone_of_boot t in
     let z = own_past s in
     let c = cpu_past s in
-    of_held t s (OfFrame f) (λ n. 0) (λ found. collects_told zone z c f 0) is
+    of_held t s (OfFrame f) (λ n. 0) (λ found. collects_post zone z c f 0) is
     (λ id b k homes at small.
     held_makes zone b k id (frame_base zone + f) 0 z c (record { seat = 0; action = Collect f c.number }) Done at is.holds (inl refl) refl tt
     (subst (λ q. MayMake t s 0 (Collect f q)) holder legal) (words_set zone f 0 b.words))
 
 pub collected_made : (t : KnownTable) (s : KnownPasts) (cpu f found : ℕ) (s' : KnownPasts) → IsHeld t s → IsHolder s cpu → s'.table ≡ s.table
-    → collects_told (zone_of_boot t) (own_past s) (cpu_past s) f found s'.pasts → MakesStep t s 0 (Collect f cpu) Done s'
-collected_made t s cpu f found s' is holder table told =
-    subst (λ q. MakesStep t s 0 (Collect f q) Done s') (sym holder) (held_made t s (record { seat = 0; action = Collect f (cpu_past s).number }) Done s' is table told)
+    → collects_post (zone_of_boot t) (own_past s) (cpu_past s) f found s'.pasts → MakesStep t s 0 (Collect f cpu) Done s'
+collected_made t s cpu f found s' is holder table post =
+    subst (λ q. MakesStep t s 0 (Collect f q) Done s') (sym holder) (held_made t s (record { seat = 0; action = Collect f (cpu_past s).number }) Done s' is table post)
 
 pub frame_of_collect : (t : KnownTable) (s : KnownPasts) (cpu f : ℕ) → MayMake t s 0 (Collect f cpu) → f < t.frames
 frame_of_collect t s cpu f legal =
     below_frames (zone_of_boot t) f (ap (λ z. is_frame z f) (sym (zone_seen t s)) ∙ (collect_tests (local_by_pasts t s) 0 f cpu legal).1)
 
 -- ---- visits
-abbrev pub opens_told : Zone → Past → Past → ℕ → ℕ → List Past → Type 0
-opens_told zone z c cpu found = MadeHeld zone z c (record { seat = 0; action = OpenVisit cpu }) Done
+abbrev pub opens_post : Zone → Past → Past → ℕ → ℕ → List Past → Type 0
+opens_post zone z c cpu found = MadeHeld zone z c (record { seat = 0; action = OpenVisit cpu }) Done
 
 pub opens : (t : KnownTable) (s : KnownPasts) (cpu : ℕ) → IsHeld t s → MayMake t s 0 (OpenVisit cpu)
-    → MayChange (zone_of_boot t) s.pasts (VisitOf cpu) (λ n. 1) (λ found. opens_told (zone_of_boot t) (own_past s) (cpu_past s) cpu 1)
+    → MayChange (zone_of_boot t) s.pasts (VisitOf cpu) (λ n. 1) (λ found. opens_post (zone_of_boot t) (own_past s) (cpu_past s) cpu 1)
 opens t s cpu is legal =
     let zone = zone_of_boot t in
-    of_held t s (VisitOf cpu) (λ n. 1) (λ found. opens_told zone (own_past s) (cpu_past s) cpu 1) is
+    of_held t s (VisitOf cpu) (λ n. 1) (λ found. opens_post zone (own_past s) (cpu_past s) cpu 1) is
     (λ id b k homes at small.
     held_makes zone b k id (frame_base zone + visit_index zone.frames cpu) 1 (own_past s) (cpu_past s) (record { seat = 0; action = OpenVisit cpu }) Done at is.holds
     (inl refl) refl tt legal (words_set zone (visit_index zone.frames cpu) 1 b.words))
 
-abbrev pub shuts_told : Zone → Past → Past → ℕ → ℕ → List Past → Type 0
-shuts_told zone z c cpu found = MadeHeld zone z c (record { seat = 0; action = ShutVisit cpu }) Done
+abbrev pub shuts_post : Zone → Past → Past → ℕ → ℕ → List Past → Type 0
+shuts_post zone z c cpu found = MadeHeld zone z c (record { seat = 0; action = ShutVisit cpu }) Done
 
 pub shuts : (t : KnownTable) (s : KnownPasts) (cpu : ℕ) → IsHeld t s → MayMake t s 0 (ShutVisit cpu)
-    → MayChange (zone_of_boot t) s.pasts (VisitOf cpu) (λ n. 0) (λ found. shuts_told (zone_of_boot t) (own_past s) (cpu_past s) cpu 0)
+    → MayChange (zone_of_boot t) s.pasts (VisitOf cpu) (λ n. 0) (λ found. shuts_post (zone_of_boot t) (own_past s) (cpu_past s) cpu 0)
 shuts t s cpu is legal =
     let zone = zone_of_boot t in
-    of_held t s (VisitOf cpu) (λ n. 0) (λ found. shuts_told zone (own_past s) (cpu_past s) cpu 0) is
+    of_held t s (VisitOf cpu) (λ n. 0) (λ found. shuts_post zone (own_past s) (cpu_past s) cpu 0) is
     (λ id b k homes at small.
     held_makes zone b k id (frame_base zone + visit_index zone.frames cpu) 0 (own_past s) (cpu_past s) (record { seat = 0; action = ShutVisit cpu }) Done at is.holds
     (inl refl) refl tt legal (words_set zone (visit_index zone.frames cpu) 0 b.words))
@@ -144,11 +144,11 @@ held_more g n = omega arith
 one_page : (n : ℕ) → 1 ≤ n → n ≡ n - 1 + 1
 one_page n some = omega (arith, some)
 
-abbrev pub takes_told : Zone → Past → Past → ℕ → ℕ → List Past → Type 0
-takes_told zone z c g found = MadeHeld zone z c (record { seat = c.number; action = Consume g }) Took
+abbrev pub takes_post : Zone → Past → Past → ℕ → ℕ → List Past → Type 0
+takes_post zone z c g found = MadeHeld zone z c (record { seat = c.number; action = Consume g }) Took
 
 pub takes_held : (t : KnownTable) (s : KnownPasts) (cpu g : ℕ) → IsHeld t s → IsHolder s cpu → IsAnswer (local_by_pasts t s) cpu (Consume g) Took → MayMake t s cpu (Consume g)
-    → MayChange (zone_of_boot t) s.pasts (StockOf cpu) (λ n. (n + (2 ^ 64 - 1)) % 2 ^ 64) (takes_told (zone_of_boot t) (own_past s) (cpu_past s) g)
+    → MayChange (zone_of_boot t) s.pasts (StockOf cpu) (λ n. (n + (2 ^ 64 - 1)) % 2 ^ 64) (takes_post (zone_of_boot t) (own_past s) (cpu_past s) g)
 takes_held t s cpu g is holder pays legal =
     let zone = zone_of_boot t in
     let z = own_past s in
@@ -159,8 +159,8 @@ takes_held t s cpu g is holder pays legal =
     let pages = ((local_seen zone c).parts q).stock.pages in
     let n = pages - 1 in
     let stock : stock_in ((local_seen zone c).parts q) ≡ HeldBy g (n + 1) = λ i. stock_said (paid.0 i) (one_page pages paid.2 i) (paid.1 i) in
-    subst (λ k. MayChange zone s.pasts (StockOf k) (λ x. (x + (2 ^ 64 - 1)) % 2 ^ 64) (takes_told zone z c g)) (sym holder)
-    (of_held t s (StockOf q) (λ x. (x + (2 ^ 64 - 1)) % 2 ^ 64) (takes_told zone z c g) is
+    subst (λ k. MayChange zone s.pasts (StockOf k) (λ x. (x + (2 ^ 64 - 1)) % 2 ^ 64) (takes_post zone z c g)) (sym holder)
+    (of_held t s (StockOf q) (λ x. (x + (2 ^ 64 - 1)) % 2 ^ 64) (takes_post zone z c g) is
     (λ id b k homes at small.
     let st = stands_at zone b k id z c at is.holds in
     let h = stock_held zone b.words b.views id z c range.0 range.1 st in
@@ -182,6 +182,6 @@ takes_held t s cpu g is holder pays legal =
     )))
 
 pub took_made : (t : KnownTable) (s : KnownPasts) (cpu g found : ℕ) (s' : KnownPasts) → IsHeld t s → IsHolder s cpu → s'.table ≡ s.table
-    → takes_told (zone_of_boot t) (own_past s) (cpu_past s) g found s'.pasts → MakesStep t s cpu (Consume g) Took s'
-took_made t s cpu g found s' is holder table told =
-    subst (λ q. MakesStep t s q (Consume g) Took s') (sym holder) (held_made t s (record { seat = (cpu_past s).number; action = Consume g }) Took s' is table told)
+    → takes_post (zone_of_boot t) (own_past s) (cpu_past s) g found s'.pasts → MakesStep t s cpu (Consume g) Took s'
+took_made t s cpu g found s' is holder table post =
+    subst (λ q. MakesStep t s q (Consume g) Took s') (sym holder) (held_made t s (record { seat = (cpu_past s).number; action = Consume g }) Took s' is table post)

@@ -35,42 +35,42 @@ freeze_changes zone words seat f count n is =
     (λ miss. subst (λ a. ChangesWords zone words seat (Freeze f count) a (with_frame_word words f n)) (sym (cond-false (n == count) Done Missed (ne_eqb n count miss)))
     ((λ e. miss (sym is ∙ e)), (λ i. record words { frames = (ap (λ m. set words.frames f m) (sym is) ∙ set-get_or words.frames f 0) i })))
 
-abbrev pub freezes_told : Zone → Past → Past → ℕ → ℕ → ℕ → List Past → Type 0
-freezes_told zone z c f count found = MadeHeld zone z c (record { seat = 0; action = Freeze f count }) (freeze_answer count found)
+abbrev pub freezes_post : Zone → Past → Past → ℕ → ℕ → ℕ → List Past → Type 0
+freezes_post zone z c f count found = MadeHeld zone z c (record { seat = 0; action = Freeze f count }) (freeze_answer count found)
 
 pub freezes : (t : KnownTable) (s : KnownPasts) (f count : ℕ) → IsHeld t s → MayMake t s 0 (Freeze f count)
-    → MayChange (zone_of_boot t) s.pasts (OfFrame f) (λ n. either (n == count) 0 n) (freezes_told (zone_of_boot t) (own_past s) (cpu_past s) f count)
+    → MayChange (zone_of_boot t) s.pasts (OfFrame f) (λ n. either (n == count) 0 n) (freezes_post (zone_of_boot t) (own_past s) (cpu_past s) f count)
 freezes t s f count is legal =
     let zone = zone_of_boot t in
     let j = frame_base zone + f in
-    of_held t s (OfFrame f) (λ n. either (n == count) 0 n) (freezes_told zone (own_past s) (cpu_past s) f count) is
+    of_held t s (OfFrame f) (λ n. either (n == count) 0 n) (freezes_post zone (own_past s) (cpu_past s) f count) is
     (λ id b k homes at small.
     let n = slice_index b.words j in
     held_makes zone b k id j (either (eqb n count) 0 n) (own_past s) (cpu_past s) (record { seat = 0; action = Freeze f count }) (freeze_answer count n) at is.holds (inl refl) refl tt legal
     (subst (ChangesWords zone (words_in zone b.words) 0 (Freeze f count) (freeze_answer count n)) (sym (words_set zone f (either (eqb n count) 0 n) b.words))
     (freeze_changes zone (words_in zone b.words) 0 f count n (frame_reads zone f b.words))))
 
-abbrev pub unfreezes_told : Zone → Past → Past → ℕ → ℕ → ℕ → List Past → Type 0
-unfreezes_told zone z c f count found = MadeHeld zone z c (record { seat = 0; action = Unfreeze f count }) Done
+abbrev pub unfreezes_post : Zone → Past → Past → ℕ → ℕ → ℕ → List Past → Type 0
+unfreezes_post zone z c f count found = MadeHeld zone z c (record { seat = 0; action = Unfreeze f count }) Done
 
 pub unfreezes : (t : KnownTable) (s : KnownPasts) (f count : ℕ) → IsHeld t s → MayMake t s 0 (Unfreeze f count)
-    → MayChange (zone_of_boot t) s.pasts (OfFrame f) (λ n. count) (λ found. unfreezes_told (zone_of_boot t) (own_past s) (cpu_past s) f count count)
+    → MayChange (zone_of_boot t) s.pasts (OfFrame f) (λ n. count) (λ found. unfreezes_post (zone_of_boot t) (own_past s) (cpu_past s) f count count)
 unfreezes t s f count is legal =
     let zone = zone_of_boot t in
-    of_held t s (OfFrame f) (λ n. count) (λ found. unfreezes_told zone (own_past s) (cpu_past s) f count count) is
+    of_held t s (OfFrame f) (λ n. count) (λ found. unfreezes_post zone (own_past s) (cpu_past s) f count count) is
     (λ id b k homes at small.
     held_makes zone b k id (frame_base zone + f) count (own_past s) (cpu_past s) (record { seat = 0; action = Unfreeze f count }) Done at is.holds (inl refl) refl tt legal
     (words_set zone f count b.words))
 
-abbrev pub fills_told : Zone → Past → Past → ℕ → ℕ → ℕ → List Past → Type 0
-fills_told zone z c cpu g n = MadeHeld zone z c (record { seat = 0; action = Fill cpu g n }) Done
+abbrev pub fills_post : Zone → Past → Past → ℕ → ℕ → ℕ → List Past → Type 0
+fills_post zone z c cpu g n = MadeHeld zone z c (record { seat = 0; action = Fill cpu g n }) Done
 
 pub fills : (t : KnownTable) (s : KnownPasts) (cpu g n : ℕ) → IsHeld t s → cpu ≤ t.cpus → HasWord (HeldBy g n) → ((local_by_pasts t s).parts cpu).book ≡ 0 → MayMake t s 0 (Fill cpu g n)
-    → MayChange (zone_of_boot t) s.pasts (StockOf cpu) (λ x. word_of (HeldBy g n)) (λ found. fills_told (zone_of_boot t) (own_past s) (cpu_past s) cpu g n)
+    → MayChange (zone_of_boot t) s.pasts (StockOf cpu) (λ x. word_of (HeldBy g n)) (λ found. fills_post (zone_of_boot t) (own_past s) (cpu_past s) cpu g n)
 fills t s cpu g n is high fits none legal =
     let zone = zone_of_boot t in
     let x = word_of (HeldBy g n) in
-    of_held t s (StockOf cpu) (λ x. word_of (HeldBy g n)) (λ found. fills_told zone (own_past s) (cpu_past s) cpu g n) is
+    of_held t s (StockOf cpu) (λ x. word_of (HeldBy g n)) (λ found. fills_post zone (own_past s) (cpu_past s) cpu g n) is
     (λ id b k homes at small.
     let shows = shows_end zone b.words b.views id (own_past s) (cpu_past s) (stands_at zone b k id (own_past s) (cpu_past s) at is.holds) in
     let empty : ((state_of zone k.run).parts cpu).book ≡ 0 =
@@ -96,7 +96,7 @@ said_freeze true = refl
 said_freeze false = refl
 
 pub froze : (t : KnownTable) (s : KnownPasts) (f count found : ℕ) (s' : KnownPasts) → IsHeld t s → s'.table ≡ s.table
-    → freezes_told (zone_of_boot t) (own_past s) (cpu_past s) f count found s'.pasts → MakesStep t s 0 (Freeze f count) (freeze_said (found == count)) s'
-froze t s f count found s' is table told =
+    → freezes_post (zone_of_boot t) (own_past s) (cpu_past s) f count found s'.pasts → MakesStep t s 0 (Freeze f count) (freeze_said (found == count)) s'
+froze t s f count found s' is table post =
     subst (λ a. MakesStep t s 0 (Freeze f count) a s') (sym (said_freeze (found == count)))
-    (held_made t s (record { seat = 0; action = Freeze f count }) (freeze_answer count found) s' is table told)
+    (held_made t s (record { seat = 0; action = Freeze f count }) (freeze_answer count found) s' is table post)

@@ -6,7 +6,7 @@ use Rattle.frame_word.specs.{visit_index}
 use Rattle.stock_word.specs.Stock.{stock_index}
 use Rattle.step_rules.specs.State.{Zone}
 use Rattle.boot_words.specs.declared.word.Word.{Word}
-use Rattle.boot_words.specs.declared.word.Word.TheVariants.{Quiet, StockOf, OfFrame, VisitOf}
+use Rattle.boot_words.specs.declared.word.Word.TheVariants.{AlwaysZero, StockOf, OfFrame, VisitOf}
 use Rattle.boot_words.specs.Rule.{frame_base, word_count, run_rule}
 use Rattle.boot_words.specs.declared.past.Past.{Past}
 use Rattle.boot_words.specs.Runs.{no_past}
@@ -28,14 +28,14 @@ pub record HasBootLayout (table : TableId) (rule_frames rule_cpus frames cpus : 
 
 -- where the word is
 abbrev pub word_place : Zone → Word → ℕ
-word_place zone Quiet = 0
+word_place zone AlwaysZero = 0
 word_place zone (StockOf cpu) = stock_index cpu
 word_place zone (OfFrame f) = frame_base zone + f
 word_place zone (VisitOf cpu) = frame_base zone + visit_index zone.frames cpu
 
 -- there is such a word: its frame or its CPU is the zone's
 abbrev pub IsInTable : Zone → Word → Type 0
-IsInTable zone Quiet = Unit {0}
+IsInTable zone AlwaysZero = Unit {0}
 IsInTable zone (StockOf cpu) = cpu ≤ zone.cpus
 IsInTable zone (OfFrame f) = f < zone.frames
 IsInTable zone (VisitOf cpu) = (1 ≤ cpu) × (cpu ≤ zone.cpus)
@@ -70,9 +70,9 @@ abbrev pub rest_of : List Past → List Past
 rest_of [] = []
 rest_of (p ∷ pasts) = pasts
 
--- A seat with these pasts may make this change of the word, in any state that keeps the rule. The fact told holds then of
+-- A seat with these pasts may make this change of the word, in any state that keeps the rule. The postcondition holds then of
 -- the word that was there and of the seat's new pasts.
 abbrev pub MayChange : Zone → List Past → Word → (ℕ → ℕ) → (ℕ → List Past → Type 0) → Type 0
-MayChange zone pasts word change told = (id : ℕ)
+MayChange zone pasts word change post = (id : ℕ)
     → Allows {S = Unit {0}} (run_rule zone) 0 id (pasts, []) (word_place zone word) change
-    (λ found later. (later.1 ≡ []) × told found later.0)
+    (λ found later. (later.1 ≡ []) × post found later.0)

@@ -9,7 +9,7 @@ ghost use Rattle.boot_words.specs.Seats.{zone_of_boot, MayChange};
 ghost use Rattle.boot_words.specs.declared.word.Word.TheVariants.{StockOf};
 ghost use Rattle.boot_words.specs.Cpus.{ConsumesPage, CreditsPage, IsAwayCpu};
 
-use crate::raw::{BootWords, PastSeat, Telling};
+use crate::raw::{BootWords, PastSeat, Postcondition};
 use crate::word::Word;
 use frame_word::Frame;
 use std::marker::{Brand, Model};
@@ -52,7 +52,7 @@ impl CpuSeat {
 impl BootWords {
     // If the stock is held by `group` with `before` pages, it has `after` then. The word that was there is returned. The
     // frame of a credit is in no word: it is there for the proof.
-    fn exchange_stock<M: Telling>(
+    fn exchange_stock<P: Postcondition>(
         &self,
         seat: &mut PastSeat,
         cpu: u32,
@@ -64,9 +64,9 @@ impl BootWords {
         requires table { seat.old.table ≡ self.now.table }
         requires cpu { cpu ≤ self.now.cpus }
         requires may { MayChange (zone_of_boot self.now) seat.old.pasts (StockOf cpu)
-            (λ x. either (x == word_of (HeldBy group before)) (word_of (HeldBy group after)) x) M.told }
+            (λ x. either (x == word_of (HeldBy group before)) (word_of (HeldBy group after)) x) P.post }
         ensures table { seat.new.table ≡ seat.old.table }
-        ensures told { M.told result seat.new.pasts }
+        ensures post { P.post result seat.new.pasts }
     {
         let old = Stock::HeldBy {
             group,
@@ -76,7 +76,7 @@ impl BootWords {
             group,
             pages: after,
         };
-        self.exchange::<M>(seat, Word::StockOf(cpu), old.word(), new.word())
+        self.exchange::<P>(seat, Word::StockOf(cpu), old.word(), new.word())
     }
 
     /// A page for `group` from the CPU's own stock, by one exchange. If the stock that the CPU saw last has none for the

@@ -3,22 +3,27 @@ ghost use Rattle.std.specs.Prelude.{◌≡◌};
 ghost use Rattle.boot_words.specs.Composed.{lend_run, AreLegal, MakesInTurn};
 ghost use Rattle.boot_words.specs.Pasts.{local_by_pasts, IsHeld, IsHolder};
 ghost use Rattle.boot_words.specs.Seats.{zone_of_boot, MayChange};
-ghost use Rattle.boot_words.specs.declared.word.Word.TheVariants.{Quiet};
+ghost use Rattle.boot_words.specs.declared.word.Word.TheVariants.{AlwaysZero};
 
-use crate::raw::{BootWords, PastSeat, Telling};
+use crate::raw::{BootWords, PastSeat, Postcondition};
 use crate::word::Word;
 use frame_word::Frame;
 use std::marker::Brand;
 
 impl BootWords {
     // The load of steps on a frame, which the word doesn't say. Their words end as they began.
-    pub(crate) fn load_for<M: Telling>(&self, held: &mut PastSeat, _cpu: u32, _frame: Frame) -> u64
+    pub(crate) fn load_for<P: Postcondition>(
+        &self,
+        held: &mut PastSeat,
+        _cpu: u32,
+        _frame: Frame,
+    ) -> u64
         requires table { held.old.table ≡ self.now.table }
-        requires may { MayChange (zone_of_boot self.now) held.old.pasts Quiet (λ n. n) M.told }
+        requires may { MayChange (zone_of_boot self.now) held.old.pasts AlwaysZero (λ n. n) P.post }
         ensures table { held.new.table ≡ held.old.table }
-        ensures told { M.told result held.new.pasts }
+        ensures post { P.post result held.new.pasts }
     {
-        self.load::<M>(held, Word::Quiet)
+        self.load::<P>(held, Word::AlwaysZero)
     }
 
     /// Lends a free frame to the CPU that holds the lock: the zone passes it out, and the CPU takes it in. The frame's word

@@ -25,7 +25,7 @@ impl BootWords {
         ensures cpu { cpu.new ≡ record cpu.old { past = record { table = self.now.table; pasts = [] } } }
     {
         self.join(zone, &mut cpu.past);
-        self.load::<Brand>(zone, Word::Quiet);
+        self.load::<Brand>(zone, Word::AlwaysZero);
     }
 
     /// The lock's holder releases it, and its past goes back to its seat. The access is a load of its stock, so it knows

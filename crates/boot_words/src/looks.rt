@@ -1,5 +1,6 @@
 //! Loads that are no step.
 ghost use Rattle.std.specs.Prelude.{◌≡◌, ◌<◌, ◌≤◌, IfSome};
+ghost use Rattle.group_tree.specs.Bounds.{most_groups};
 ghost use Rattle.stock_word.specs.Stock.{HasWord, group_base};
 ghost use Rattle.step_rules.specs.After.{state_of};
 ghost use Rattle.step_rules.specs.State.{most_references};
@@ -29,12 +30,12 @@ impl BootWords {
         Stock::of_word(found)
     }
 
-    /// The group of the last fill of a CPU's stock, 0 to 63, by one load; `None` if it was never filled.
+    /// The group of the last fill of a CPU's stock, by one load; `None` if it was never filled.
     pub fn group(&self, held: &mut PastSeat, cpu: u32) -> Option<u32>
         requires held { IsHeld self.now held.old }
         requires cpu { (1 ≤ cpu) × (cpu ≤ self.now.cpus) }
         ensures group { result ≡ ((local_by_pasts self.now held.old).parts cpu).stock.group }
-        ensures fits { IfSome result (λ g. g < 64) }
+        ensures fits { IfSome result (λ g. g < most_groups) }
         ensures same { held.new ≡ held.old }
     {
         Stock::of_word(self.load::<Brand>(held, Word::StockOf(cpu))).group()

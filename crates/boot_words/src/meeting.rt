@@ -23,7 +23,7 @@ impl BootWords {
         ensures same { (cpu.new.number ≡ cpu.old.number) × (cpu.new.last ≡ cpu.old.last) }
     {
         self.join(zone, &mut cpu.past);
-        self.load::<Brand>(zone, Word::Quiet);
+        self.load::<Brand>(zone, Word::AlwaysZero);
         cpu.past = self.split_others(zone);
     }
 }

@@ -4,9 +4,9 @@ ghost use Rattle.step_rules.specs.Laws.{IsLocalStep};
 ghost use Rattle.boot_words.specs.Pasts.{cpu_past, local_by_pasts, IsHeld, MakesStep};
 ghost use Rattle.boot_words.specs.Seats.{zone_of_boot, MayChange};
 ghost use Rattle.boot_words.specs.Steps.{IsPlain};
-ghost use Rattle.boot_words.specs.declared.word.Word.TheVariants.{Quiet};
+ghost use Rattle.boot_words.specs.declared.word.Word.TheVariants.{AlwaysZero};
 
-use crate::raw::{BootWords, PastSeat, Telling};
+use crate::raw::{BootWords, PastSeat, Postcondition};
 use crate::word::Word;
 use std::marker::Brand;
 use step_rules::step::{Action, Answer};
@@ -14,7 +14,7 @@ use step_rules::step::{Action, Answer};
 impl BootWords {
     // One load. Which step it stands for is in no word: it is there for the proof.
     #[inline(always)]
-    fn plain_as<M: Telling>(
+    fn plain_as<P: Postcondition>(
         &self,
         held: &mut PastSeat,
         _seat: u32,
@@ -22,11 +22,11 @@ impl BootWords {
         _answer: &Answer,
     ) -> u64
         requires table { held.old.table ≡ self.now.table }
-        requires may { MayChange (zone_of_boot self.now) held.old.pasts Quiet (λ n. n) M.told }
+        requires may { MayChange (zone_of_boot self.now) held.old.pasts AlwaysZero (λ n. n) P.post }
         ensures table { held.new.table ≡ held.old.table }
-        ensures told { M.told result held.new.pasts }
+        ensures post { P.post result held.new.pasts }
     {
-        self.load::<M>(held, Word::Quiet)
+        self.load::<P>(held, Word::AlwaysZero)
     }
 
     /// Makes a step that changes no word, which is legal with this answer in the state that the lock's holder sees.

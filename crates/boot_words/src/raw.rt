@@ -1,5 +1,6 @@
-//! The atomic table, its words and the pasts of its seats. Each access to a word is here. A caller names by `Telling` a
-//! fact that it wants to know afterwards, and proves by `MayChange` that the rule lets the access bring it about.
+//! The atomic table, its words and the pasts of its seats. Each access to a word is here. A caller names by
+//! `Postcondition` a fact that it wants to know afterwards, and proves by `MayChange` that the rule lets the access
+//! bring it about.
 ghost use Rattle.std.specs.Prelude.{◌≡◌, ◌≤◌, ◌+◌, ◌-◌, ◌%◌, ◌^◌, ◌<◌, ◌==◌, ◌++◌, [], IfOk, MatchOption};
 ghost use Rattle.std.specs.Mem.Slots.{slots_items, slots_len};
 ghost use prog.Atomic.{either};
@@ -37,25 +38,25 @@ impl TableRule<(), Pasts, TableKey> for OneRun {
     ghost first = { λ key. all_pasts key.cpus };
 }
 
-/// A fact that an access tells its caller, about the word that it found and the pasts that the seat has then.
-pub trait Telling {
+/// What holds after an access, of the word that it found and the pasts that the seat has then.
+pub trait Postcondition {
     ghost use Rattle.std.specs.Prelude.{ℕ, List};
     ghost use Rattle.boot_words.specs.declared.past.Past.{Past};
 
-    ghost told: { ℕ → List Past → Type 0 };
+    ghost post: { ℕ → List Past → Type 0 };
 }
 
 // A caller passes `Brand`, and its proof names the fact that this stands for.
-impl Telling for Brand {
-    ghost told = { λ found pasts. Unit {0} };
+impl Postcondition for Brand {
+    ghost post = { λ found pasts. Unit {0} };
 }
 
-pub(crate) struct Tells<M: Telling> {
-    of: PhantomData<M>,
+pub(crate) struct Ensures<P: Postcondition> {
+    of: PhantomData<P>,
 }
 
-impl<M: Telling> Play<(), Pasts> for Tells<M> {
-    ghost then = { λ step before found later. (later.1 ≡ []) × M.told found later.0 };
+impl<P: Postcondition> Play<(), Pasts> for Ensures<P> {
+    ghost then = { λ step before found later. (later.1 ≡ []) × P.post found later.0 };
 }
 
 // Parts the first past from the rest.
@@ -174,7 +175,7 @@ impl BootWords {
     {
         let base = 16 * (self.cpus as usize + 1);
         match word {
-            Word::Quiet => 0,
+            Word::AlwaysZero => 0,
             Word::StockOf(cpu) => 16 * cpu as usize,
             Word::OfFrame(frame) => base + frame.number() as usize,
             Word::VisitOf(cpu) => base + (self.frames as usize + (cpu as usize - 1)),
@@ -183,46 +184,50 @@ impl BootWords {
 
     /// Reads a word.
     #[inline(always)]
-    pub(crate) fn load<M: Telling>(&self, seat: &mut PastSeat, word: Word) -> u64
+    pub(crate) fn load<P: Postcondition>(&self, seat: &mut PastSeat, word: Word) -> u64
         requires table { seat.old.table ≡ self.now.table }
         requires place { IsInTable (zone_of_boot self.now) word }
-        requires may { MayChange (zone_of_boot self.now) seat.old.pasts word (λ n. n) M.told }
+        requires may { MayChange (zone_of_boot self.now) seat.old.pasts word (λ n. n) P.post }
         ensures table { seat.new.table ≡ seat.old.table }
-        ensures told { M.told result seat.new.pasts }
+        ensures post { P.post result seat.new.pasts }
     {
         let at = self.index(word);
-        self.table.shared.load::<Tells<M>>(&mut seat.seat, at)
+        self.table.shared.load::<Ensures<P>>(&mut seat.seat, at)
     }
 
     /// Stores a word.
     #[inline(always)]
-    pub(crate) fn store<M: Telling>(&self, seat: &mut PastSeat, word: Word, new: u64)
+    pub(crate) fn store<P: Postcondition>(&self, seat: &mut PastSeat, word: Word, new: u64)
         requires table { seat.old.table ≡ self.now.table }
         requires place { IsInTable (zone_of_boot self.now) word }
-        requires may { MayChange (zone_of_boot self.now) seat.old.pasts word (λ n. new) (λ found. M.told new) }
+        requires may { MayChange (zone_of_boot self.now) seat.old.pasts word (λ n. new) (λ found. P.post new) }
         ensures table { seat.new.table ≡ seat.old.table }
-        ensures told { M.told new seat.new.pasts }
+        ensures post { P.post new seat.new.pasts }
     {
         let at = self.index(word);
-        self.table.shared.store::<Tells<M>>(&mut seat.seat, at, new);
+        self.table
+            .shared
+            .store::<Ensures<P>>(&mut seat.seat, at, new);
     }
 
     /// Stores a word, and returns the one that was there.
     #[inline(always)]
-    pub(crate) fn swap<M: Telling>(&self, seat: &mut PastSeat, word: Word, new: u64) -> u64
+    pub(crate) fn swap<P: Postcondition>(&self, seat: &mut PastSeat, word: Word, new: u64) -> u64
         requires table { seat.old.table ≡ self.now.table }
         requires place { IsInTable (zone_of_boot self.now) word }
-        requires may { MayChange (zone_of_boot self.now) seat.old.pasts word (λ n. new) M.told }
+        requires may { MayChange (zone_of_boot self.now) seat.old.pasts word (λ n. new) P.post }
         ensures table { seat.new.table ≡ seat.old.table }
-        ensures told { M.told result seat.new.pasts }
+        ensures post { P.post result seat.new.pasts }
     {
         let at = self.index(word);
-        self.table.shared.swap::<Tells<M>>(&mut seat.seat, at, new)
+        self.table
+            .shared
+            .swap::<Ensures<P>>(&mut seat.seat, at, new)
     }
 
     /// Stores `new` if `old` is there. Either way it returns the word that was there.
     #[inline(always)]
-    pub(crate) fn exchange<M: Telling>(
+    pub(crate) fn exchange<P: Postcondition>(
         &self,
         seat: &mut PastSeat,
         word: Word,
@@ -231,29 +236,29 @@ impl BootWords {
     ) -> u64
         requires table { seat.old.table ≡ self.now.table }
         requires place { IsInTable (zone_of_boot self.now) word }
-        requires may { MayChange (zone_of_boot self.now) seat.old.pasts word (λ n. either (n == old) new n) M.told }
+        requires may { MayChange (zone_of_boot self.now) seat.old.pasts word (λ n. either (n == old) new n) P.post }
         ensures table { seat.new.table ≡ seat.old.table }
-        ensures told { M.told result seat.new.pasts }
+        ensures post { P.post result seat.new.pasts }
     {
         let at = self.index(word);
         self.table
             .shared
-            .compare_exchange::<Tells<M>>(&mut seat.seat, at, old, new)
+            .compare_exchange::<Ensures<P>>(&mut seat.seat, at, old, new)
     }
 
     /// Subtracts one, and returns the word that was there.
     #[inline(always)]
-    pub(crate) fn take_one<M: Telling>(&self, seat: &mut PastSeat, word: Word) -> u64
+    pub(crate) fn take_one<P: Postcondition>(&self, seat: &mut PastSeat, word: Word) -> u64
         requires table { seat.old.table ≡ self.now.table }
         requires place { IsInTable (zone_of_boot self.now) word }
-        requires may { MayChange (zone_of_boot self.now) seat.old.pasts word (λ n. (n + (2 ^ 64 - 1)) % 2 ^ 64) M.told }
+        requires may { MayChange (zone_of_boot self.now) seat.old.pasts word (λ n. (n + (2 ^ 64 - 1)) % 2 ^ 64) P.post }
         ensures table { seat.new.table ≡ seat.old.table }
-        ensures told { M.told result seat.new.pasts }
+        ensures post { P.post result seat.new.pasts }
     {
         let at = self.index(word);
         self.table
             .shared
-            .fetch_sub::<Tells<M>>(&mut seat.seat, at, 1)
+            .fetch_sub::<Ensures<P>>(&mut seat.seat, at, 1)
     }
 
     /// Moves all pasts of `other` to `seat`.

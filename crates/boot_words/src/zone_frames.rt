@@ -7,7 +7,7 @@ ghost use Rattle.boot_words.specs.Pasts.{freeze_said, put_said, IsHeld, IsHolder
 ghost use Rattle.boot_words.specs.Seats.{zone_of_boot, MayChange};
 ghost use Rattle.boot_words.specs.declared.word.Word.TheVariants.{OfFrame};
 
-use crate::raw::{BootWords, PastSeat, Telling};
+use crate::raw::{BootWords, PastSeat, Postcondition};
 use crate::word::Word;
 use frame_word::{Frame, MARK_BASE, Put};
 use std::marker::Brand;
@@ -33,15 +33,15 @@ impl BootWords {
     }
 
     // A put's subtraction. Whose reference it is, is in no word: the seat is there for the proof.
-    fn take_one_by<M: Telling>(&self, held: &mut PastSeat, _seat: u32, frame: Frame) -> u64
+    fn take_one_by<P: Postcondition>(&self, held: &mut PastSeat, _seat: u32, frame: Frame) -> u64
         requires table { held.old.table ≡ self.now.table }
         requires frame { frame < self.now.frames }
         requires may { MayChange (zone_of_boot self.now) held.old.pasts (OfFrame frame)
-            (λ n. (n + (2 ^ 64 - 1)) % 2 ^ 64) M.told }
+            (λ n. (n + (2 ^ 64 - 1)) % 2 ^ 64) P.post }
         ensures table { held.new.table ≡ held.old.table }
-        ensures told { M.told result held.new.pasts }
+        ensures post { P.post result held.new.pasts }
     {
-        self.take_one::<M>(held, Word::OfFrame(frame))
+        self.take_one::<P>(held, Word::OfFrame(frame))
     }
 
     /// The zone or the lock's holder drops one of its references.

@@ -9,23 +9,23 @@ ghost use Rattle.boot_words.specs.Pasts.{local_by_pasts, IsHeld, IsHolder, Makes
 ghost use Rattle.boot_words.specs.Seats.{zone_of_boot, MayChange};
 ghost use Rattle.boot_words.specs.declared.word.Word.TheVariants.{StockOf};
 
-use crate::raw::{BootWords, PastSeat, Telling};
+use crate::raw::{BootWords, PastSeat, Postcondition};
 use crate::word::Word;
 use std::marker::Brand;
 use stock_word::Stock;
 
 impl BootWords {
     // From now on the stock is the group's, with these pages.
-    fn fill_with<M: Telling>(&self, seat: &mut PastSeat, cpu: u32, group: u32, pages: u32)
+    fn fill_with<P: Postcondition>(&self, seat: &mut PastSeat, cpu: u32, group: u32, pages: u32)
         requires table { seat.old.table ≡ self.now.table }
         requires cpu { cpu ≤ self.now.cpus }
         requires may { MayChange (zone_of_boot self.now) seat.old.pasts (StockOf cpu)
-            (λ n. word_of (HeldBy group pages)) (λ found. M.told (word_of (HeldBy group pages))) }
+            (λ n. word_of (HeldBy group pages)) (λ found. P.post (word_of (HeldBy group pages))) }
         ensures table { seat.new.table ≡ seat.old.table }
-        ensures told { M.told (word_of (HeldBy group pages)) seat.new.pasts }
+        ensures post { P.post (word_of (HeldBy group pages)) seat.new.pasts }
     {
         let held = Stock::HeldBy { group, pages };
-        self.store::<M>(seat, Word::StockOf(cpu), held.word());
+        self.store::<P>(seat, Word::StockOf(cpu), held.word());
     }
 
     /// Fills the stock of the CPU with pages of the group, by one store. Nothing was booked to it.
@@ -41,16 +41,16 @@ impl BootWords {
     }
 
     // From now on the stock is a drained one of this group. The word that was there is returned.
-    fn drain_of<M: Telling>(&self, held: &mut PastSeat, cpu: u32, group: u32) -> u64
+    fn drain_of<P: Postcondition>(&self, held: &mut PastSeat, cpu: u32, group: u32) -> u64
         requires table { held.old.table ≡ self.now.table }
         requires cpu { cpu ≤ self.now.cpus }
         requires may { MayChange (zone_of_boot self.now) held.old.pasts (StockOf cpu) (λ n. word_of (DrainedOf group))
-            M.told }
+            P.post }
         ensures table { held.new.table ≡ held.old.table }
-        ensures told { M.told result held.new.pasts }
+        ensures post { P.post result held.new.pasts }
     {
         let drained = Stock::DrainedOf { group };
-        self.swap::<M>(held, Word::StockOf(cpu), drained.word())
+        self.swap::<P>(held, Word::StockOf(cpu), drained.word())
     }
 
     /// Empties the stock of the CPU, and returns how many pages it had: a load, and one swap if the stock has a group. The
@@ -68,15 +68,15 @@ impl BootWords {
     }
 
     // Takes a page of this group off the stock word of the CPU, which doesn't say the group.
-    fn take_page_of<M: Telling>(&self, held: &mut PastSeat, cpu: u32, _group: u32) -> u64
+    fn take_page_of<P: Postcondition>(&self, held: &mut PastSeat, cpu: u32, _group: u32) -> u64
         requires table { held.old.table ≡ self.now.table }
         requires cpu { cpu ≤ self.now.cpus }
         requires may { MayChange (zone_of_boot self.now) held.old.pasts (StockOf cpu) (λ n. (n + (2 ^ 64 - 1)) % 2 ^ 64)
-            M.told }
+            P.post }
         ensures table { held.new.table ≡ held.old.table }
-        ensures told { M.told result held.new.pasts }
+        ensures post { P.post result held.new.pasts }
     {
-        self.take_one::<M>(held, Word::StockOf(cpu))
+        self.take_one::<P>(held, Word::StockOf(cpu))
     }
 
     /// A consume by the CPU that holds the lock, whose stock pays: it always takes a page, by one subtraction.

@@ -92,15 +92,6 @@ module _ (s : State) (c : KnownCpuLists) where
   here : (seen_by c.number s).parts c.number ≡ s.parts c.number
   here = own_part c.number s.parts c.number refl
 
-  -- a CPU sees its own lists and references as they are
-  pub own_seen : HasOwn s c → HasOwn (seen_by c.number s) c
-  own_seen own = record {
-    list = ap (λ (part : Part). part.list) here ∙ own.list;
-    fresh = ap (λ (part : Part). part.fresh) here ∙ own.fresh;
-    back = ap (λ (part : Part). part.back) here ∙ own.back;
-    references = λ f. own_reference c.number s.references c.number f (inr refl) ∙ own.references f;
-  }
-
   pub own_unseen : HasOwn (seen_by c.number s) c → HasOwn s c
   own_unseen own = record {
     list = ap (λ (part : Part). part.list) (sym here) ∙ own.list;

@@ -1,10 +1,9 @@
 -- What a step under the lock says of the CPU's frames.
-use Rattle.std.proofs.Common.{◌≡◌, ℕ, ◌<◌, ◌≤◌, List, ◌∷◌, length, sym, ap, ◌∙◌, subst, arith, inr}
-use Rattle.std.proofs.lemmas.Bool.{leb-true, ltb-true}
-use Rattle.step_rules.specs.declared.step.Action.TheVariants.{Consume, PassBack}
-use Rattle.step_rules.specs.{KeepsInvariant, Part, Zone, is_frame, times, state_of, seen_by}
+use Rattle.std.proofs.Common.{◌≡◌, ℕ, ◌<◌, List, ◌∷◌, sym, ap, ◌∙◌, subst, arith}
+use Rattle.step_rules.specs.declared.step.Action.TheVariants.{PassBack}
+use Rattle.step_rules.specs.{KeepsInvariant, Zone, is_frame, times, state_of, seen_by}
 use Rattle.step_rules.proofs.Freeing.{zone_of_run}
-use Rattle.step_rules.proofs.LegalTests.{consume_tests, pass_back_tests}
+use Rattle.step_rules.proofs.LegalTests.{pass_back_tests}
 use Rattle.step_rules.proofs.Lists.{times_same}
 use Rattle.step_rules.proofs.Runs.{sound_run}
 use Rattle.step_rules.proofs.SoundSteps.{below_frames}
@@ -24,14 +23,6 @@ module _ (t : KnownTable) (s : KnownPasts) where
       below_frames (zone_of_boot t) f (ap (λ (z : Zone). is_frame z f) (sym zone_is) ∙ inside)
 
   module _ (c : KnownCpuLists) (own : HasOwn (local_by_pasts t s) c) where
-    -- a CPU that may consume has a frame listed, and room for another fresh one
-    pub may_take : (g : ℕ) → MayMake t s c.number (Consume g) → (1 ≤ length c.list) × (length c.fresh < 32)
-    may_take g legal =
-        let tests = consume_tests (local_by_pasts t s) c.number g legal in (
-          subst (λ (l : List ℕ). 1 ≤ length l) own.list (leb-true 1 (length ((local_by_pasts t s).parts c.number).list) tests.1),
-          subst (λ (l : List ℕ). length l < 32) own.fresh (ltb-true (length ((local_by_pasts t s).parts c.number).fresh) 32 tests.2),
-        )
-
     -- a listed frame of the lock's holder is one of the table
     pub front_inside : IsHeld t s → IsHolder s c.number → (f : ℕ) (rest : List ℕ) → c.list ≡ f ∷ rest → f < t.frames
     front_inside held holder f rest front =

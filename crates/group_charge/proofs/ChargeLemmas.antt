@@ -13,7 +13,8 @@ use Rattle.std.proofs.lemmas.List.Recursion.{found_at}
 use Rattle.std.proofs.lemmas.List.Sums.{sum_by-cons, sum_by_push}
 use Rattle.group_tree.specs.declared.group.Group.{Group}
 use Rattle.group_tree.specs.declared.event.EventKey.{EventKey}
-use Rattle.group_tree.specs.Groups.{the_root, new_row, IsLeastFreeNumber, has_group, in_subtree, has_child, without_group, with_limit, with_oom_group, limited, flagged, AreGroups}
+use Rattle.group_tree.specs.Bounds.{most_groups}
+use Rattle.group_tree.specs.Groups.{the_root, initial_groups, new_row, IsLeastFreeNumber, has_group, in_subtree, has_child, without_group, with_limit, with_oom_group, limited, flagged, AreGroups}
 use Rattle.group_tree.proofs.GroupLemmas.{CanMake, has_group-any, has_group-contains, length-full, AreGroups-initial, AreGroups-with}
 use Rattle.group_tree.proofs.GroupLemmas.{AreGroups-without, AreGroups-limited, AreGroups-flagged, limited-number, flagged-number}
 use Rattle.group_tree.proofs.CallerLemmas.{in_subtree-flagged, in_subtree-limited, in_subtree-root}
@@ -39,25 +40,25 @@ pub as_many : (l : Ledger) → AreCharges l → length l.accounts ≡ length l.g
 as_many l facts = sym (length-map l.accounts (λ (a : Account). a.group)) ∙ ap length facts.numbers ∙ length-map l.groups (λ (x : Group). x.number)
 
 -- the k-th account is the k-th group's
-account_number : (l : Ledger) (k : ℕ) (d : Account) → AreCharges l → k < length l.accounts → (get_or l.accounts k d).group ≡ (get_or l.groups k the_root).number
+account_number : (l : Ledger) (k : ℕ) (d : Account) → AreCharges l → k < length l.accounts → (get_or l.accounts k d).group ≡ (get_or l.groups k (the_root 0)).number
 account_number l k d facts lt =
     let also : k < length l.groups = omega (arith, as_many l facts) in
     sym (get_or-map (λ (a : Account). a.group) l.accounts k d 0 lt) ∙ ap (λ ns. get_or ns k 0) facts.numbers
-    ∙ get_or-map (λ (x : Group). x.number) l.groups k the_root 0 also
+    ∙ get_or-map (λ (x : Group). x.number) l.groups k (the_root 0) 0 also
 
 -- each account's group is there
 pub all_known : (l : Ledger) → AreCharges l → All (λ a. IsTrue (has_group l.groups a.group)) l.accounts
 all_known l facts = λ k d lt.
     let also : k < length l.groups = omega (arith, as_many l facts) in
     subst (λ n. IsTrue (has_group l.groups n)) (sym (account_number l k d facts lt))
-    (has_group-contains l.groups (get_or l.groups k the_root) (Contains-get_or l.groups k the_root also))
+    (has_group-contains l.groups (get_or l.groups k (the_root 0)) (Contains-get_or l.groups k (the_root 0) also))
 
 -- no group has two accounts
 pub all_distinct : (l : Ledger) → AreCharges l → AreDistinct l.accounts
 all_distinct l facts = λ i j d below lt same.
     let first = account_number l i d facts (omega arith) in
     let second = account_number l j d facts lt in
-    facts.groups.numbers_distinct i j the_root below (omega (arith, as_many l facts)) (sym first ∙ same ∙ second)
+    facts.groups.numbers_distinct i j (the_root 0) below (omega (arith, as_many l facts)) (sym first ∙ same ∙ second)
 
 -- an account of the list is found by its number
 pub account_at-there : (l : Ledger) (a : Account) → AreCharges l → Contains l.accounts a → account_at l a.group ≡ Some a
@@ -131,15 +132,15 @@ total-filter p (x ∷ xs) =
     (λ _. omega arith)
 
 -- peaks cover usage at first
-initial_peaks : PeaksCover (the_root ∷ []) (empty_account 0 ∷ [])
-initial_peaks =
-    All-cons (λ (a : Account). usage_charged (the_root ∷ []) (empty_account 0 ∷ []) a.group ≤ a.peak) (empty_account 0) []
-    (usage-le-total (the_root ∷ []) (empty_account 0 ∷ []) 0)
-    (All-nil (λ (a : Account). usage_charged (the_root ∷ []) (empty_account 0 ∷ []) a.group ≤ a.peak))
+initial_peaks : (below : ℕ) → PeaksCover (initial_groups below) (empty_account 0 ∷ [])
+initial_peaks below =
+    All-cons (λ (a : Account). usage_charged (initial_groups below) (empty_account 0 ∷ []) a.group ≤ a.peak) (empty_account 0) []
+    (usage-le-total (initial_groups below) (empty_account 0 ∷ []) 0)
+    (All-nil (λ (a : Account). usage_charged (initial_groups below) (empty_account 0 ∷ []) a.group ≤ a.peak))
 
 -- the facts hold at first
-pub AreCharges-initial : AreCharges initial_ledger
-AreCharges-initial = record { groups = AreGroups-initial; numbers = refl; fits = lit< tt; peaks = initial_peaks }
+pub AreCharges-initial : (below : ℕ) → below < most_groups → AreCharges (initial_ledger below)
+AreCharges-initial below few = record { groups = AreGroups-initial below few; numbers = refl; fits = lit< tt; peaks = initial_peaks below }
 
 -- and over other rows with the same numbers, each of which lies in the same subtrees
 AreCharges-as : (l : Ledger) (groups : List Group) → AreGroups groups → map (λ (x : Group). x.number) groups ≡ map (λ (x : Group). x.number) l.groups →

@@ -11,7 +11,7 @@ use Rattle.group_tree.specs.declared.event.EventKey.{EventKey}
 use Rattle.group_tree.specs.{with_one_more, has_group, in_subtree, new_row, with_group, limited, flagged, on_path}
 use Rattle.group_tree.specs.Groups.{with_limit, with_oom_group, without_group}
 use Rattle.group_tree.proofs.GroupLemmas.{has_group-contains, has_group-is, group_at-contains, limited-number, flagged-number}
-pub use Rattle.group_tree.proofs.CallerLemmas.{number_below}
+pub use Rattle.group_tree.proofs.CallerLemmas.{number_in_room}
 use Rattle.group_charge.specs.Charges.{Account, AreCharges, ReclaimSettings, account_at, added, charged, empty_account, pages_of, peaked, taken, usage_charged}
 use Rattle.group_charge.specs.Charges.{with_charge, with_event_at}
 use Rattle.group_charge.specs.Kept.{AccountsOnPath, AreUsages, account_by, accounts_of, ledger_of, usage_by, with_event, with_local_event, with_usage_peak}
@@ -204,13 +204,6 @@ kept_flagged groups kept g flag = same_numbers (flagged g flag) (flagged-number 
 -- a list is read at the group's number
 pub read_at : {X : Type 0} (xs : List X) (i g : ℕ) (d e : X) → i < length xs → i ≡ g → get_or xs i d ≡ get_or xs g e
 read_at xs i g d e within same = get_or_default xs i d e within ∙ ap (λ k. get_or xs k e) same
-
--- other pages are written under the group's number
-pub set_pages : (kept : List Account) (i g n : ℕ) (d : Account) → i < length kept → i ≡ g →
-    set kept i (record (get_or kept i d) { pages = n }) ≡ set kept g (record (account_by kept g) { pages = n })
-set_pages kept i g n d within same =
-    ap (λ (a : Account). set kept i (record a { pages = n })) (read_at kept i g d (empty_account 0) within same)
-    ∙ ap (λ k. set kept k (record (account_by kept g) { pages = n })) same
 
 -- the account of a group that is there is the one kept under its number
 pub account_kept : (groups : List Group) (kept : List Account) (s : List ReclaimSettings) (g : ℕ) → AreCharges (ledger_of groups kept s) → IsTrue (has_group groups g) →

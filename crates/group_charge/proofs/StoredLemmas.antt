@@ -1,12 +1,12 @@
 -- The stored usages stay the sums of the own pages. Serves the invariant of `Charges` and the clauses of `try_charge` that
 -- speak of room.
-use Rattle.std.proofs.Common.{◌≡◌, ℕ, ◌+◌, ◌-◌, ◌≤◌, Bool, true, false, cond, IsTrue, Option, None, List, length, replicate, sym, ap, ◌∙◌, subst, arith, ⊎_elim}
+use Rattle.std.proofs.Common.{◌≡◌, ◌≢◌, ℕ, ◌+◌, ◌-◌, ◌≤◌, Bool, true, false, cond, IsTrue, Option, None, List, length, replicate, sym, ap, ◌∙◌, subst, arith, ⊎_elim}
 use Rattle.std.proofs.lemmas.Bool.{cases_Bool, cases_eq, cases_lt, cond-true, cond-false}
 use Rattle.std.proofs.lemmas.List.{get_or-replicate, get_or_past, length-replicate}
 use Rattle.group_tree.specs.declared.group.Group.{Group}
-use Rattle.group_tree.specs.{most_groups, is_passed, has_group, in_subtree}
+use Rattle.group_tree.specs.{room_of, is_passed, has_group, in_subtree}
 use Rattle.group_tree.specs.declared.event.EventKey.{EventKey}
-use Rattle.group_tree.proofs.GroupLemmas.{CanMake}
+use Rattle.group_tree.proofs.GroupLemmas.{CanMake, room_of-initial, room_of-with, room_of-limited, room_of-flagged, room_of-without}
 use Rattle.group_tree.proofs.Walks.{passed_all}
 use Rattle.group_charge.specs.Charges.{Account, AreCharges, Ledger, ReclaimSettings, current_of, initial_ledger, pages_of, with_charge, with_group_limit}
 use Rattle.group_charge.specs.Charges.{with_group_removed, with_noted, with_new_group, with_oom_flag, with_uncharge}
@@ -19,10 +19,10 @@ use Rattle.group_charge.proofs.ReaderLemmas.{removed_usage}
 -- ---- room by what is stored
 
 -- ---- at first
-pub stored_initial : AreUsages initial_ledger (replicate most_groups 0)
-stored_initial = record {
-  size = let zero : ℕ = 0 in length-replicate most_groups zero;
-  sums = λ g. zeros most_groups g ∙ sym (none g);
+pub stored_initial : (below : ℕ) → AreUsages (initial_ledger below) (replicate (1 + below) 0)
+stored_initial below = record {
+  size = let zero : ℕ = 0 in length-replicate (1 + below) zero ∙ sym (room_of-initial below);
+  sums = λ g. zeros (1 + below) g ∙ sym (none g);
 }
   where
     zeros : (n g : ℕ) → usage_by (replicate n 0) g ≡ 0
@@ -33,11 +33,11 @@ stored_initial = record {
         (λ ge. let size = length-replicate n zero in get_or_past (replicate n zero) g zero (omega arith))
         (cases_lt g n)
 
-    none : (g : ℕ) → current_of initial_ledger g ≡ 0
-    none g = omega (arith, usage-le-total initial_ledger.groups initial_ledger.accounts g)
+    none : (g : ℕ) → current_of (initial_ledger below) g ≡ 0
+    none g = omega (arith, usage-le-total (initial_ledger below).groups (initial_ledger below).accounts g)
 
 -- ---- after a charge, and after one that was refused
-pub stored_charged : (l : Ledger) (old new : List ℕ) (g n : ℕ) → AreCharges l → IsTrue (has_group l.groups g) → AreUsages l old → length new ≡ most_groups →
+pub stored_charged : (l : Ledger) (old new : List ℕ) (g n : ℕ) → AreCharges l → IsTrue (has_group l.groups g) → AreUsages l old → length new ≡ room_of l.groups →
     UsagesPassed l.groups g None (λ pages. pages + n) old new → AreUsages (with_charge l g n) new
 stored_charged l old new g n facts there are size walked = record {
   size = size;
@@ -48,7 +48,7 @@ stored_charged l old new g n facts there are size walked = record {
 
 -- ---- after pages were taken back
 pub stored_taken : (l : Ledger) (old new : List ℕ) (g n : ℕ) → AreCharges l → IsTrue (has_group l.groups g) → n ≤ pages_of l g → AreUsages l old →
-    length new ≡ most_groups → UsagesPassed l.groups g None (λ pages. pages - n) old new → AreUsages (with_uncharge l g n) new
+    length new ≡ room_of l.groups → UsagesPassed l.groups g None (λ pages. pages - n) old new → AreUsages (with_uncharge l g n) new
 stored_taken l old new g n facts there enough are size walked = record {
   size = size;
   sums = λ m.
@@ -85,15 +85,15 @@ pub stored_noted : (key : EventKey) (l : Ledger) (usages : List ℕ) (g : ℕ) �
 stored_noted key l usages g are = record { size = are.size; sums = λ m. are.sums m ∙ sym (usage-noted key l.groups l.accounts g m) }
 
 pub stored_limited : (l : Ledger) (usages : List ℕ) (g : ℕ) (limit : Option ℕ) → AreUsages l usages → AreUsages (with_group_limit l g limit) usages
-stored_limited l usages g limit are = record { size = are.size; sums = λ m. are.sums m ∙ sym (usage-limited l.groups l.accounts g m limit) }
+stored_limited l usages g limit are = record { size = are.size ∙ sym (room_of-limited l.groups g limit); sums = λ m. are.sums m ∙ sym (usage-limited l.groups l.accounts g m limit) }
 
 pub stored_flagged : (l : Ledger) (usages : List ℕ) (g : ℕ) (flag : Bool) → AreUsages l usages → AreUsages (with_oom_flag l g flag) usages
-stored_flagged l usages g flag are = record { size = are.size; sums = λ m. are.sums m ∙ sym (usage-flagged l.groups l.accounts g m flag) }
+stored_flagged l usages g flag are = record { size = are.size ∙ sym (room_of-flagged l.groups g flag); sums = λ m. are.sums m ∙ sym (usage-flagged l.groups l.accounts g m flag) }
 
 pub stored_new : (l : Ledger) (usages : List ℕ) (n : ℕ) (path : List ℕ) → AreCharges l → CanMake l.groups path → has_group l.groups n ≡ false →
     AreUsages l usages → AreUsages (with_new_group l n path) usages
 stored_new l usages n path facts can free are = record {
-  size = are.size;
+  size = are.size ∙ sym (room_of-with l.groups n path);
   sums = λ m. are.sums m ∙
       ⊎_elim
       (λ same. ap (current_of l) same ∙ usage-absent l.groups l.accounts n free
@@ -102,16 +102,16 @@ stored_new l usages n path facts can free are = record {
       (cases_eq m n);
 }
 
-pub stored_removed : (l : Ledger) (usages : List ℕ) (g : ℕ) → AreCharges l → IsTrue (has_group l.groups g) → current_of l g ≡ 0 → AreUsages l usages →
+pub stored_removed : (l : Ledger) (usages : List ℕ) (g : ℕ) → g ≢ 0 → AreCharges l → IsTrue (has_group l.groups g) → current_of l g ≡ 0 → AreUsages l usages →
     AreUsages (with_group_removed l g) usages
-stored_removed l usages g facts there empty are = record { size = are.size; sums = λ m. are.sums m ∙ sym (removed_usage l g m facts there empty) }
+stored_removed l usages g below facts there empty are = record { size = are.size ∙ sym (room_of-without l.groups g below); sums = λ m. are.sums m ∙ sym (removed_usage l g m facts there empty) }
 
 -- ---- all that is kept
 -- what is kept for a ledger that is in order
 pub kept_as : (groups : List Group) (accounts : List Account) (usages : List ℕ) (settings : List ReclaimSettings) (l : Ledger) → ledger_of groups accounts settings ≡ l →
-    AreCharges l → length accounts ≡ most_groups → AreUsages l usages → AreSoundCharges groups accounts usages settings
+    AreCharges l → length accounts ≡ room_of l.groups → AreUsages l usages → AreSoundCharges groups accounts usages settings
 kept_as groups accounts usages settings l e facts size are = record {
   charges = subst AreCharges (sym e) facts;
-  size = size;
+  size = size ∙ ap (λ k. room_of k.groups) (sym e);
   usages_are = subst (λ k. AreUsages k usages) (sym e) are;
 }

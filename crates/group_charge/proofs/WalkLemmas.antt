@@ -1,14 +1,14 @@
 -- A walk over `Tree::ancestors` that changes what is kept under the number of each group that it passes. Serves the contracts
 -- of `walks::add_until_over`, `subtract_until`, `raise_peaks` and `count_max`.
 use Rattle.std.proofs.Common.{◌≡◌, ℕ, ◌<◌, Bool, true, false, not, cond, ◌==◌, IsTrue, IfSome, Option, Some, None, List, [], ◌∷◌, length, get_or, set}
-use Rattle.std.proofs.Common.{refl, sym, ap, ◌∙◌, subst, ⊎_elim}
+use Rattle.std.proofs.Common.{arith, refl, sym, ap, ◌∙◌, subst, ⊎_elim}
 use Rattle.std.specs.Prelude.{nat_eq}
 use Rattle.std.specs.Option.{option_eq}
 use Rattle.std.proofs.lemmas.Bool.{cases_eq, cond-true, cond-false, eq-eqb, eqb-true, false_from_ne_true, false≢true}
 use Rattle.std.proofs.lemmas.List.{get_or-set_other, get_or-set_same, length-set}
 use Rattle.group_tree.specs.declared.group.Group.{Group}
-use Rattle.group_tree.specs.{ancestors_of, is_passed, AreGroups, has_group, in_subtree, parent_of, on_path}
-use Rattle.group_tree.proofs.CallerLemmas.{in_subtree-antisym}
+use Rattle.group_tree.specs.{ancestors_of, is_passed, room_of, AreGroups, has_group, in_subtree, parent_of, on_path}
+use Rattle.group_tree.proofs.CallerLemmas.{in_subtree-antisym, number_in_room}
 use Rattle.group_tree.proofs.Walks.{TurnAt, WalkAt, WalkedTo, at_end, at_end_passed, at_next, at_on, at_start, at_turn, passed_all, passed_here}
 use Rattle.group_tree.proofs.Walks.{passed_none, passed_on, passed_other}
 
@@ -50,6 +50,10 @@ module _ (X : Type 0) (d : X) (groups : List Group) (test : ℕ → Bool) (g : �
         own = here m ∙ cond-false (is_passed groups g (Some m) m) (f m (get_or old m d)) (get_or old m d) (passed_here groups g m turn.there);
         size = w.size;
       }
+
+  -- the list has an entry for m
+  pub walking_within : (m : ℕ) (rest : List ℕ) (new : List X) → AreGroups groups → length old ≡ room_of groups → Turn m rest new → m < length new
+  walking_within m rest new facts size t = omega (arith, number_in_room groups m facts t.turn.there, t.size, size)
 
   -- once it is changed, the walk goes on
   pub walking_on : (m : ℕ) (rest : List ℕ) (new : List X) (item : X) → AreGroups groups → Turn m rest new → test m ≡ true → m < length new →

@@ -3,7 +3,7 @@ use Rattle.std.specs.Prelude.{All, ◌≡◌, ℕ, ◌+◌, ◌-◌, ◌^◌, �
 use Rattle.std.specs.Prelude.{◌++◌, filter, map, replicate, set, sum_by, if◌then◌else◌}
 use Rattle.std.specs.List.{find, list_any, slice_index_or}
 use Rattle.std.specs.Option.{option_eq, option_map_or}
-use Rattle.group_tree.specs.{most_groups, EventCounts, no_events, with_one_more, initial_groups, in_subtree, with_group, without_group, with_limit}
+use Rattle.group_tree.specs.{EventCounts, no_events, with_one_more, initial_groups, in_subtree, with_group, without_group, with_limit}
 use Rattle.group_tree.specs.{with_oom_group, AreGroups, at_group, on_path, peak_after}
 use Rattle.group_tree.specs.declared.group.Group.{Group}
 use Rattle.group_tree.specs.declared.event.EventKey.TheVariants.{Max, Oom, OomKill, OomGroupKill}
@@ -35,12 +35,12 @@ are_protecting settings = list_any is_protecting settings
 abbrev pub empty_account : ℕ → Account
 empty_account n = record { group = n; pages = 0; peak = 0; events = no_events; events_local = no_events }
 
--- the root alone, with nothing charged and nothing set
-abbrev pub initial_ledger : Ledger
-initial_ledger = record {
-  groups = initial_groups;
+-- the root alone, with nothing charged and nothing set; this many groups may exist below it
+abbrev pub initial_ledger : ℕ → Ledger
+initial_ledger descendants = record {
+  groups = initial_groups descendants;
   accounts = empty_account 0 ∷ [];
-  settings = replicate most_groups no_settings;
+  settings = replicate (1 + descendants) no_settings;
 }
 
 -- what is set for the group

@@ -3,7 +3,7 @@
 use Rattle.std.specs.Prelude.{◌≡◌, ℕ, max, Option, List, length, map, set, if◌then◌else◌}
 use Rattle.std.specs.List.{slice_index_or}
 use Rattle.group_tree.specs.declared.group.Group.{Group}
-use Rattle.group_tree.specs.{is_passed, most_groups, with_one_more, on_path}
+use Rattle.group_tree.specs.{is_passed, room_of, with_one_more, on_path}
 use Rattle.group_tree.specs.declared.event.EventKey.{EventKey}
 use Rattle.group_charge.specs.Charges.{Account, AreCharges, Ledger, ReclaimSettings, current_of, empty_account}
 
@@ -30,14 +30,14 @@ ledger_of groups accounts settings = record {
 -- each stored usage is the sum of the own pages of the group of that number and of all groups below it; 0 if there is
 -- no such group
 pub record AreUsages (l : Ledger) (usages : List ℕ) : Type 0 where
-  pub size : length usages ≡ most_groups
+  pub size : length usages ≡ room_of l.groups
   pub sums : (g : ℕ) → usage_by usages g ≡ current_of l g
 
 -- what holds of all that is kept: of accounts, usages and what is set
 pub record AreSoundCharges (groups : List Group) (accounts : List Account) (usages : List ℕ)
     (settings : List ReclaimSettings) : Type 0 where
   pub charges : AreCharges (ledger_of groups accounts settings)
-  pub size : length accounts ≡ most_groups
+  pub size : length accounts ≡ room_of groups
   pub usages_are : AreUsages (ledger_of groups accounts settings) usages
 
 -- ---- what a walk changes

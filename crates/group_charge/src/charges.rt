@@ -1,9 +1,10 @@
 //! The charges of a tree of groups.
 
 ghost use Rattle.std.specs.Prelude.{◌≡◌, ◌≢◌, ℕ, ◌↔◌, ◌+◌, ◌^◌, ◌<◌, ◌≤◌, false, IfErr, IfOk, IsOk, IsTrue};
-ghost use Rattle.std.specs.Prelude.{MatchOption, OnErr, OnOk, Some};
+ghost use Rattle.std.specs.Prelude.{MatchOption, OnErr, OnOk, Some, replicate};
 ghost use Rattle.std.specs.Option.{option_copied};
 ghost use Rattle.std.specs.Result.{result_err};
+ghost use Rattle.group_tree.specs.Bounds.{most_groups};
 ghost use Rattle.group_tree.specs.Groups.{IsLeastFreeNumber, has_child, has_group, is_oom_group, limit_of, make_fault};
 ghost use Rattle.group_tree.specs.Room.{IsLowestOver, PathHasRoom};
 ghost use Rattle.group_charge.specs.Charges.{AreCharges, CountsOnly, PagesRise, PeaksRise, SameEvents, SamePages};
@@ -18,7 +19,7 @@ use crate::settings::{ReclaimSettings, SettingsTable};
 use crate::walks;
 use group_tree::event::{EventCounts, EventKey};
 use group_tree::fault::Fault;
-use group_tree::group::{GroupId, MAX_GROUPS};
+use group_tree::group::GroupId;
 use group_tree::tree::Tree;
 use std::alloc::{AllocError, Global};
 use std::marker::Model;
@@ -36,9 +37,9 @@ pub struct Over {
 pub struct Charges {
     tree: Tree,
     // By number: the account of each group.
-    accounts: [Account; MAX_GROUPS],
+    accounts: Vec<Account>,
     // By number: the pages charged to each group and to all groups below it; 0 if no group has the number.
-    usages: [u32; MAX_GROUPS],
+    usages: Vec<u32>,
     // By number: what is set for each group.
     settings: SettingsTable,
 }
@@ -49,20 +50,23 @@ impl Model for Charges {
 
     ghost Value = { Ledger };
 
-    ghost view = { λ c. ledger_of c.tree c.accounts c.settings };
+    ghost view = { λ c. ledger_of c.tree c.accounts.items c.settings };
 
-    ghost invariant = { λ c. AreSoundCharges c.tree c.accounts c.usages c.settings };
+    ghost invariant = { λ c. AreSoundCharges c.tree c.accounts.items c.usages.items c.settings };
 }
 
 impl Charges {
-    /// The root alone, with nothing charged, no limit and nothing set.
-    pub fn new(alloc: Global) -> Result<Charges, AllocError>
-        ensures { IfOk result (λ charges. charges ≡ initial_ledger) }
+    /// The root alone, with nothing charged, no limit and nothing set, and with room for this many groups below it: at
+    /// most [`MAX_GROUPS`](group_tree::group::MAX_GROUPS) - 1.
+    pub fn new(alloc: Global, descendants: u32) -> Result<Charges, AllocError>
+        requires { descendants < most_groups }
+        ensures { IfOk result (λ charges. charges ≡ initial_ledger descendants) }
     {
-        let tree = Tree::new(alloc)?;
-        let accounts = [new_account(GroupId::root()); MAX_GROUPS];
-        let usages = [0; MAX_GROUPS];
-        let settings = SettingsTable::new();
+        let room = descendants as usize + 1;
+        let tree = Tree::new(alloc, descendants)?;
+        let accounts = empty_accounts(alloc, room)?;
+        let usages = no_usages(alloc, room)?;
+        let settings = SettingsTable::new(alloc, room)?;
         Ok(Charges {
             tree,
             accounts,
@@ -280,6 +284,19 @@ impl Charges {
         walks::count_event(&self.tree, &mut self.accounts, key, group);
         walks::count_local_event(&mut self.accounts, key, group);
     }
+}
+
+// An account for each number: that of the root, until a group with the number is made.
+fn empty_accounts(alloc: Global, room: usize) -> Result<Vec<Account>, AllocError>
+    ensures { IfOk result (λ accounts. accounts.items ≡ replicate room (empty_account 0)) }
+{
+    vec![in alloc; new_account(GroupId::root()); room]
+}
+
+fn no_usages(alloc: Global, room: usize) -> Result<Vec<u32>, AllocError>
+    ensures { IfOk result (λ usages. usages.items ≡ replicate room 0) }
+{
+    vec![in alloc; 0; room]
 }
 
 fn new_account(group: GroupId) -> Account

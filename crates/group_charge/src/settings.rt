@@ -1,11 +1,11 @@
 //! What is set for each group, beside its limit.
 
-ghost use Rattle.std.specs.Prelude.{◌≡◌, replicate, set};
+ghost use Rattle.std.specs.Prelude.{◌≡◌, IfOk, replicate, set};
 ghost use Rattle.std.specs.List.{slice_index_or};
-ghost use Rattle.group_tree.specs.Bounds.{most_groups};
 ghost use Rattle.group_charge.specs.Charges.{are_protecting, is_protecting, no_settings};
 
-use group_tree::group::{GroupId, MAX_GROUPS};
+use group_tree::group::GroupId;
+use std::alloc::{AllocError, Global};
 use std::marker::Model;
 
 /// What reclaim does for a group, in pages. None is `max`.
@@ -42,39 +42,42 @@ impl ReclaimSettings {
 /// What is set for each group, by number.
 #[derive(Debug, Drop)]
 pub(crate) struct SettingsTable {
-    settings: [ReclaimSettings; MAX_GROUPS],
+    settings: Vec<ReclaimSettings>,
     // Whether some group's settings protect it. Kept so that a tree in which nothing is protected costs nothing.
     is_protecting: bool,
 }
 
 impl Model for SettingsTable {
-    ghost use Rattle.std.specs.Prelude.{◌≡◌, List, length};
-    ghost use Rattle.group_tree.specs.Bounds.{most_groups};
+    ghost use Rattle.std.specs.Prelude.{◌≡◌, List};
     ghost use Rattle.group_charge.specs.Charges.{ReclaimSettings, are_protecting};
 
     ghost Value = { List ReclaimSettings };
 
-    ghost view = { λ t. t.settings };
+    ghost view = { λ t. t.settings.items };
 
-    ghost invariant = { λ t. (length t.settings ≡ most_groups) × (t.is_protecting ≡ are_protecting t.settings) };
+    ghost invariant = { λ t. t.is_protecting ≡ are_protecting t.settings.items };
 }
 
 impl SettingsTable {
-    /// Nothing is set for any group.
-    pub(crate) fn new() -> SettingsTable
-        ensures { result ≡ replicate most_groups no_settings }
+    /// Nothing is set for any group, with room for this many.
+    pub(crate) fn new(alloc: Global, room: usize) -> Result<SettingsTable, AllocError>
+        ensures { IfOk result (λ table. table ≡ replicate room no_settings) }
     {
-        SettingsTable {
-            settings: [ReclaimSettings::none(); MAX_GROUPS],
+        let settings = default_settings(alloc, room)?;
+        Ok(SettingsTable {
+            settings,
             is_protecting: false,
-        }
+        })
     }
 
     /// What is set for the group.
     pub(crate) fn of(&self, group: GroupId) -> ReclaimSettings
         ensures { result ≡ slice_index_or self.now group no_settings }
     {
-        self.settings[group.number() as usize]
+        match self.settings.get(group.number() as usize) {
+            Some(settings) => *settings,
+            None => ReclaimSettings::none(),
+        }
     }
 
     /// Whether memory.low or memory.min of some group is above 0.
@@ -84,13 +87,23 @@ impl SettingsTable {
         self.is_protecting
     }
 
-    /// Replaces what is set for the group.
+    /// Replaces what is set for the group. A number beyond the room changes nothing.
     pub(crate) fn set(&mut self, group: GroupId, settings: ReclaimSettings)
         ensures { self.new ≡ set self.old group settings }
     {
-        self.settings[group.number() as usize] = settings;
+        let number = group.number() as usize;
+        if number >= self.settings.len() {
+            return;
+        }
+        self.settings[number] = settings;
         if self.is_protecting || settings.is_protecting() {
             self.is_protecting = self.settings.iter().any(|of_one| of_one.is_protecting());
         }
     }
+}
+
+fn default_settings(alloc: Global, room: usize) -> Result<Vec<ReclaimSettings>, AllocError>
+    ensures { IfOk result (λ settings. settings.items ≡ replicate room no_settings) }
+{
+    vec![in alloc; ReclaimSettings::none(); room]
 }

@@ -1,7 +1,7 @@
 //! The walks from a group up to the root, over usages, peaks and counts, which are kept by group number.
 
 ghost use Rattle.std.specs.Prelude.{◌≡◌, ℕ, ◌+◌, ◌-◌, ◌^◌, ◌<◌, ◌≤◌, IfSome, IsTrue, MatchOption, length};
-ghost use Rattle.group_tree.specs.{is_passed, most_groups, AreGroups, has_group, in_subtree, IsLowestOver, PathHasRoom};
+ghost use Rattle.group_tree.specs.{is_passed, room_of, AreGroups, has_group, in_subtree, IsLowestOver, PathHasRoom};
 ghost use Rattle.group_tree.specs.{fits_limit};
 ghost use Rattle.group_charge.specs.Kept.{AccountsOnPath, UsagesPassed, account_by, usage_by, with_event};
 ghost use Rattle.group_charge.specs.Kept.{with_local_event, with_usage_peak};
@@ -25,18 +25,18 @@ fn fits_limit(limit: Option<u32>, pages: u32) -> bool
 /// group, to which it adds nothing.
 pub fn add_until_over(
     tree: &Tree,
-    usages: &mut [u32],
+    usages: &mut Vec<u32>,
     group: GroupId,
     pages: u32,
 ) -> Option<GroupId>
     requires legal { AreGroups tree.now }
     requires there { IsTrue (has_group tree.now group) }
-    requires size { length usages.old ≡ most_groups }
-    requires fits { (m : ℕ) → usage_by usages.old m + pages < 2 ^ 32 }
-    ensures room { MatchOption result (PathHasRoom tree.now (usage_by usages.old) group pages)
-        (IsLowestOver tree.now (usage_by usages.old) group pages) }
-    ensures added { UsagesPassed tree.now group result (λ usage. usage + pages) usages.old usages.new }
-    ensures size { length usages.new ≡ most_groups }
+    requires size { length usages.old.items ≡ room_of tree.now }
+    requires fits { (m : ℕ) → usage_by usages.old.items m + pages < 2 ^ 32 }
+    ensures room { MatchOption result (PathHasRoom tree.now (usage_by usages.old.items) group pages)
+        (IsLowestOver tree.now (usage_by usages.old.items) group pages) }
+    ensures added { UsagesPassed tree.now group result (λ usage. usage + pages) usages.old.items usages.new.items }
+    ensures size { length usages.new.items ≡ room_of tree.now }
 {
     for ancestor in tree.ancestors(group) {
         let number = ancestor.number() as usize;
@@ -53,18 +53,18 @@ pub fn add_until_over(
 /// there: that group and those above it keep their usage.
 pub fn subtract_until(
     tree: &Tree,
-    usages: &mut [u32],
+    usages: &mut Vec<u32>,
     group: GroupId,
     end: Option<GroupId>,
     pages: u32,
 )
     requires legal { AreGroups tree.now }
     requires there { IsTrue (has_group tree.now group) }
-    requires size { length usages.old ≡ most_groups }
+    requires size { length usages.old.items ≡ room_of tree.now }
     requires on_path { IfSome end (λ m. IsTrue (in_subtree tree.now m group)) }
-    requires enough { (m : ℕ) → IsTrue (is_passed tree.now group end m) → pages ≤ usage_by usages.old m }
-    ensures taken { UsagesPassed tree.now group end (λ usage. usage - pages) usages.old usages.new }
-    ensures size { length usages.new ≡ most_groups }
+    requires enough { (m : ℕ) → IsTrue (is_passed tree.now group end m) → pages ≤ usage_by usages.old.items m }
+    ensures taken { UsagesPassed tree.now group end (λ usage. usage - pages) usages.old.items usages.new.items }
+    ensures size { length usages.new.items ≡ room_of tree.now }
 {
     for ancestor in tree.ancestors(group) {
         if end == Some(ancestor) {
@@ -75,13 +75,13 @@ pub fn subtract_until(
 }
 
 /// Raises the peaks of the group and of each group above it to their usage.
-pub fn raise_peaks(tree: &Tree, accounts: &mut [Account], usages: &[u32], group: GroupId)
+pub fn raise_peaks(tree: &Tree, accounts: &mut Vec<Account>, usages: &Vec<u32>, group: GroupId)
     requires legal { AreGroups tree.now }
     requires there { IsTrue (has_group tree.now group) }
-    requires size { length accounts.old ≡ most_groups }
-    requires usages { length usages.now ≡ most_groups }
-    ensures raised { AccountsOnPath tree.now group (with_usage_peak usages.now) accounts.old accounts.new }
-    ensures size { length accounts.new ≡ most_groups }
+    requires size { length accounts.old.items ≡ room_of tree.now }
+    requires usages { length usages.now.items ≡ room_of tree.now }
+    ensures raised { AccountsOnPath tree.now group (with_usage_peak usages.now.items) accounts.old.items accounts.new.items }
+    ensures size { length accounts.new.items ≡ room_of tree.now }
 {
     for ancestor in tree.ancestors(group) {
         let number = ancestor.number() as usize;
@@ -91,12 +91,12 @@ pub fn raise_peaks(tree: &Tree, accounts: &mut [Account], usages: &[u32], group:
 }
 
 /// Counts one more event of this key in the hierarchical counts of the group and of each group above it.
-pub fn count_event(tree: &Tree, accounts: &mut [Account], key: EventKey, group: GroupId)
+pub fn count_event(tree: &Tree, accounts: &mut Vec<Account>, key: EventKey, group: GroupId)
     requires legal { AreGroups tree.now }
     requires there { IsTrue (has_group tree.now group) }
-    requires size { length accounts.old ≡ most_groups }
-    ensures counted { AccountsOnPath tree.now group (with_event key) accounts.old accounts.new }
-    ensures size { length accounts.new ≡ most_groups }
+    requires size { length accounts.old.items ≡ room_of tree.now }
+    ensures counted { AccountsOnPath tree.now group (with_event key) accounts.old.items accounts.new.items }
+    ensures size { length accounts.new.items ≡ room_of tree.now }
 {
     for ancestor in tree.ancestors(group) {
         let at = ancestor.number() as usize;
@@ -105,9 +105,9 @@ pub fn count_event(tree: &Tree, accounts: &mut [Account], key: EventKey, group: 
 }
 
 /// Counts one more event of this key in the local counts of the group.
-pub fn count_local_event(accounts: &mut [Account], key: EventKey, group: GroupId)
-    requires size { length accounts.old ≡ most_groups }
-    ensures counted { accounts.new ≡ with_local_event key group accounts.old }
+pub fn count_local_event(accounts: &mut Vec<Account>, key: EventKey, group: GroupId)
+    requires there { group < length accounts.old.items }
+    ensures counted { accounts.new.items ≡ with_local_event key group accounts.old.items }
 {
     let number = group.number() as usize;
     accounts[number].events_local = accounts[number].events_local.with_one_more(key);

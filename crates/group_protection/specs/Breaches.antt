@@ -9,7 +9,7 @@ use Rattle.group_protection.specs.Protections.{IsKeptByMin}
 -- the root, /a, /a/b with three children, and /a/f
 abbrev pub small_tree : List Group
 small_tree =
-    the_root ∷ new_row 1 (codes "/a") ∷ new_row 2 (codes "/a/b") ∷ new_row 3 (codes "/a/b/c") ∷ new_row 4 (codes "/a/b/d")
+    the_root 6 ∷ new_row 1 (codes "/a") ∷ new_row 2 (codes "/a/b") ∷ new_row 3 (codes "/a/b/c") ∷ new_row 4 (codes "/a/b/d")
     ∷ new_row 5 (codes "/a/b/e") ∷ new_row 6 (codes "/a/f") ∷ []
 
 -- the account of a group with this many pages of its own

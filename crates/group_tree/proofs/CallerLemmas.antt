@@ -14,7 +14,7 @@ use Rattle.std.proofs.lemmas.Option.{none-some, same_Some}
 use Rattle.group_tree.specs.Bounds.{most_groups}
 use Rattle.group_tree.specs.Path.{root_path, is_root, names_of, depth_of, parent_path, IsWellFormed}
 use Rattle.group_tree.specs.Groups.{Group, group_at, number_at, has_group, path_of, limit_of, begins, in_subtree, parent_of, with_group}
-use Rattle.group_tree.specs.Groups.{new_row, without_group, with_limit, limited, with_oom_group, flagged, is_oom_group, AreGroups}
+use Rattle.group_tree.specs.Groups.{new_row, without_group, with_limit, limited, with_oom_group, flagged, is_oom_group, room_of, AreGroups}
 use Rattle.group_tree.proofs.PathLemmas.{begins_names, begins_from_names, begins_from_well_formed, slashed, slashed-names, has_name, names-root}
 use Rattle.group_tree.proofs.PathLemmas.{root-from_test, names_parent, begins_parent, begins_root}
 use Rattle.group_tree.proofs.GroupLemmas.{CanMake, some_is, is_some-map, has_group-any, has_group-is, group_at-contains, group_at-there}
@@ -59,12 +59,15 @@ in_subtree-from groups g h s =
 pub path_of-there : (groups : List Group) (g : ℕ) → IsTrue (has_group groups g) → (path : List ℕ) × (path_of groups g ≡ Some path)
 path_of-there groups g h = let w = has_group-is groups g h in (w.0.path, path_of-at groups g w.0 w.1)
 
--- the number of a group that is there is below the number of groups
-pub number_below : (groups : List Group) (g : ℕ) → AreGroups groups → IsTrue (has_group groups g) → g < most_groups
-number_below groups g facts there =
+-- the number of a group that is there is below the tree's room, and so below the most groups
+pub number_in_room : (groups : List Group) (g : ℕ) → AreGroups groups → IsTrue (has_group groups g) → g < room_of groups
+number_in_room groups g facts there =
     let w = has_group-is groups g there in
     let c = group_at-contains groups g w.0 w.1 in
-    subst (λ k. k < most_groups) c.1 (All-contains (λ (x : Group). x.number < most_groups) groups w.0 facts.numbers c.0)
+    subst (λ k. k < room_of groups) c.1 (All-contains (λ (x : Group). x.number < room_of groups) groups w.0 facts.numbers c.0)
+
+pub number_below : (groups : List Group) (g : ℕ) → AreGroups groups → IsTrue (has_group groups g) → g < most_groups
+number_below groups g facts there = omega (arith, number_in_room groups g facts there, facts.room)
 
 pub has_group-path : (groups : List Group) (g : ℕ) (path : List ℕ) → path_of groups g ≡ Some path → IsTrue (has_group groups g)
 unfolding has_group

@@ -1,7 +1,7 @@
 -- What holds of the groups of a tree, and how a change keeps it. Serves the invariant of `Tree` and the contracts of its calls.
 use Rattle.std.proofs.Common.{◌≡◌, ◌≢◌, ℕ, zero, suc, ◌+◌, ◌<◌, ◌≤◌, Bool, true, false, not, cond, leb, ◌&&◌, ◌||◌, ◌==◌, nat_eq, nat_le, nat_lt}
 use Rattle.std.proofs.Common.{IsTrue, IsSomeAnd, Option, Some, None, is_some, is_none, List, [], ◌∷◌, ◌++◌, length, take, drop, get_or}
-use Rattle.std.proofs.Common.{slice_get, map, filter, All, AllPairs, Contains, refl, sym, ap, ◌∙◌, subst, arith, ⊎_elim, lit≤, lit<}
+use Rattle.std.proofs.Common.{slice_get, map, filter, All, AllPairs, Contains, refl, sym, ap, ◌∙◌, subst, arith, ⊎_elim, lit≤}
 use Rattle.std.specs.List.{find, list_all, list_any, starts_with}
 use Rattle.std.specs.Option.{option_map, option_and_then, option_or, option_map_or}
 use Rattle.std.specs.Str.{bytes_eq}
@@ -20,9 +20,9 @@ use Rattle.std.proofs.lemmas.List.Recursion.{found_at}
 use Rattle.std.proofs.lemmas.Option.{none-some, same_Some}
 use Rattle.std.proofs.lemmas.Slice.Eq.{bytes_eq-Decides}
 use Rattle.group_tree.specs.Path.{root_path, is_root, is_name, names_of, depth_of, parent_path, is_well_formed, IsWellFormed}
-use Rattle.group_tree.specs.Groups.{Group, the_root, group_at, number_at, has_group, path_of, begins, in_subtree, has_child, parent_of, make_fault}
+use Rattle.group_tree.specs.Groups.{Group, the_root, initial_groups, group_at, number_at, has_group, path_of, begins, in_subtree, has_child, parent_of, make_fault}
 use Rattle.group_tree.specs.Bounds.{most_groups}
-use Rattle.group_tree.specs.Groups.{new_row, is_oom_group, with_group, without_group, with_limit, limited, with_oom_group, flagged, AreGroups}
+use Rattle.group_tree.specs.Groups.{new_row, is_oom_group, room_of, with_group, without_group, with_limit, limited, with_oom_group, flagged, AreGroups}
 
 -- ---- finding
 module _ {X : Type 0} (p : X → Bool) where
@@ -182,6 +182,11 @@ pub is_oom_group-without : (groups : List Group) (n k : ℕ) → k ≢ n → is_
 unfolding is_oom_group
 is_oom_group-without groups n k other = ap (λ o. option_map_or (λ (g : Group). g.oom_group) o false) (group_at-without groups n k other)
 
+pub room_of-without : (groups : List Group) (n : ℕ) → n ≢ 0 → room_of (without_group groups n) ≡ room_of groups
+unfolding room_of
+room_of-without groups n below =
+    ap (λ o. 1 + option_map_or (λ (g : Group). g.descendants) o 0) (group_at-without groups n 0 (λ e. below (sym e)))
+
 -- ---- there are as many groups as numbers below n, where each of these is taken
 without-shorter : (groups : List Group) (n : ℕ) → IsTrue (has_group groups n) → length (without_group groups n) + 1 ≤ length groups
 unfolding without_group
@@ -217,25 +222,30 @@ root-depth : depth_of root_path ≤ 8
 unfolding names_of
 root-depth = lit≤ tt
 
-root-parent : IsTrue (is_some (number_at (the_root ∷ []) (parent_path root_path)))
+root-parent : (below : ℕ) → IsTrue (is_some (number_at (initial_groups below) (parent_path root_path)))
 unfolding number_at parent_path
-root-parent = refl
+root-parent below = refl
 
-root-flag : is_oom_group (the_root ∷ []) 0 ≡ false
+root-flag : (below : ℕ) → is_oom_group (initial_groups below) 0 ≡ false
 unfolding is_oom_group group_at
-root-flag = refl
+root-flag below = refl
 
-pub AreGroups-initial : AreGroups (the_root ∷ [])
-AreGroups-initial = record {
-  few = lit≤ tt;
+pub room_of-initial : (below : ℕ) → room_of (initial_groups below) ≡ 1 + below
+unfolding room_of group_at
+room_of-initial below = refl
+
+pub AreGroups-initial : (below : ℕ) → below < most_groups → AreGroups (initial_groups below)
+AreGroups-initial below few = record {
+  few = omega (arith, room_of-initial below);
+  room = omega (arith, room_of-initial below);
   root = (refl, refl);
-  root_flag = root-flag;
-  numbers = All-one (λ (g : Group). g.number < most_groups) the_root (lit< tt);
-  paths = All-one (λ (g : Group). IsWellFormed g.path) the_root root-formed;
-  depths = All-one (λ (g : Group). depth_of g.path ≤ 8) the_root root-depth;
-  numbers_distinct = λ i j d below lt. absurd (omega arith);
-  paths_distinct = λ i j d below lt. absurd (omega arith);
-  parents = All-one (λ (g : Group). IsTrue (is_some (number_at (the_root ∷ []) (parent_path g.path)))) the_root root-parent;
+  root_flag = root-flag below;
+  numbers = All-one (λ (g : Group). g.number < room_of (initial_groups below)) (the_root below) (omega (arith, room_of-initial below));
+  paths = All-one (λ (g : Group). IsWellFormed g.path) (the_root below) root-formed;
+  depths = All-one (λ (g : Group). depth_of g.path ≤ 8) (the_root below) root-depth;
+  numbers_distinct = λ i j d low lt. absurd (omega arith);
+  paths_distinct = λ i j d low lt. absurd (omega arith);
+  parents = All-one (λ (g : Group). IsTrue (is_some (number_at (initial_groups below) (parent_path g.path)))) (the_root below) (root-parent below);
 }
 
 -- ---- what allows a group to be made
@@ -246,7 +256,7 @@ pub record CanMake (groups : List Group) (path : List ℕ) : Type 0 where
   pub shallow : depth_of path ≤ 8
   pub fresh : is_some (number_at groups path) ≡ false
   pub parent : is_some (number_at groups (parent_path path)) ≡ true
-  pub room : length groups < most_groups
+  pub room : length groups < room_of groups
 
 cond_none : {X : Type 0} (b : Bool) (x : X) (o : Option X) → cond b (Some x) o ≡ None → (b ≡ false) × (o ≡ None)
 cond_none true x o e = absurd (none-some x (sym e))
@@ -269,7 +279,7 @@ can_make groups path e =
     let two = cond_none (nat_lt 8 (depth_of path)) _ _ one.1 in
     let three = cond_none (is_some (number_at groups path)) _ _ two.1 in
     let four = cond_none (is_none (number_at groups (parent_path path))) _ _ three.1 in
-    let five = cond_none (nat_le most_groups (length groups)) _ _ four.1 in
+    let five = cond_none (nat_le (room_of groups) (length groups)) _ _ four.1 in
     let names = or_parts (not (is_well_formed path)) (is_root path) one.0 in
     let formed : IsWellFormed path = not-false (is_well_formed path) names.0 in
     record {
@@ -279,7 +289,7 @@ can_make groups path e =
       shallow = ltb-false 8 (depth_of path) two.0;
       fresh = three.0;
       parent = not_none (number_at groups (parent_path path)) four.0;
-      room = leb-false most_groups (length groups) five.0;
+      room = leb-false (room_of groups) (length groups) five.0;
     }
 
 -- ---- one more group
@@ -316,16 +326,35 @@ is_oom_group-with groups n k path =
     ap (λ o. option_map_or (λ (g : Group). g.oom_group) o false) (find-append test groups (new ∷ []))
     ∙ flag_or (find test groups) (find test (new ∷ [])) off
 
-pub AreGroups-with : (groups : List Group) (n : ℕ) (path : List ℕ) → AreGroups groups → CanMake groups path → n < most_groups → has_group groups n ≡ false →
+-- a new group changes no room
+room_or : (o more : Option Group) → option_map_or (λ (g : Group). g.descendants) more 0 ≡ 0 →
+    option_map_or (λ (g : Group). g.descendants) (option_or o more) 0 ≡ option_map_or (λ (g : Group). g.descendants) o 0
+room_or None more none = none
+room_or (Some g) more none = refl
+
+pub room_of-with : (groups : List Group) (n : ℕ) (path : List ℕ) → room_of (with_group groups n path) ≡ room_of groups
+unfolding room_of group_at
+room_of-with groups n path =
+    let test : Group → Bool = λ g. g.number == 0 in
+    let new : Group = new_row n path in
+    let none : option_map_or (λ (g : Group). g.descendants) (find test (new ∷ [])) 0 ≡ 0 =
+    cond_both (n == 0) (Some new) None (λ o. option_map_or (λ (g : Group). g.descendants) o 0 ≡ 0) (λ _. refl) (λ _. refl) in
+    ap (λ n. 1 + n) (ap (λ o. option_map_or (λ (g : Group). g.descendants) o 0) (find-append test groups (new ∷ []))
+    ∙ room_or (find test groups) (find test (new ∷ [])) none)
+
+pub AreGroups-with : (groups : List Group) (n : ℕ) (path : List ℕ) → AreGroups groups → CanMake groups path → n < room_of groups → has_group groups n ≡ false →
     AreGroups (with_group groups n path)
 AreGroups-with groups n path facts can below free =
     let g : Group = new_row n path in
     let more : length (groups ++ g ∷ []) ≡ length groups + 1 = length_push groups g in
+    let same : room_of (groups ++ g ∷ []) ≡ room_of groups = room_of-with groups n path in
     record {
       few = omega (arith, can.room);
+      room = omega (arith, facts.room);
       root = root-with groups g facts.root;
       root_flag = is_oom_group-with groups n 0 path ∙ facts.root_flag;
-      numbers = All-push (λ x. x.number < most_groups) groups g facts.numbers below;
+      numbers = subst (λ r. All (λ (x : Group). x.number < r) (groups ++ g ∷ [])) (sym same)
+          (All-push (λ x. x.number < room_of groups) groups g facts.numbers below);
       paths = All-push (λ x. IsWellFormed x.path) groups g facts.paths can.formed;
       depths = All-push (λ x. depth_of x.path ≤ 8) groups g facts.depths can.shallow;
       numbers_distinct = all_pairs_push (λ x y. x.number ≢ y.number) groups g facts.numbers_distinct
@@ -395,11 +424,14 @@ pub AreGroups-without : (groups : List Group) (n : ℕ) → AreGroups groups →
 unfolding without_group
 AreGroups-without groups n facts leaf below =
     let test : Group → Bool = λ x. not (x.number == n) in
+    let same : room_of (filter test groups) ≡ room_of groups = room_of-without groups n below in
     record {
       few = omega (arith, facts.few, length-filter test groups, count_by-le-length test groups);
+      room = omega (arith, facts.room);
       root = root-without groups n below facts.root;
       root_flag = is_oom_group-without groups n 0 (λ e. below (sym e)) ∙ facts.root_flag;
-      numbers = All-filter test (λ x. x.number < most_groups) groups facts.numbers;
+      numbers = subst (λ r. All (λ (x : Group). x.number < r) (filter test groups)) (sym same)
+          (All-filter test (λ x. x.number < room_of groups) groups facts.numbers);
       paths = All-filter test (λ x. IsWellFormed x.path) groups facts.paths;
       depths = All-filter test (λ x. depth_of x.path ≤ 8) groups facts.depths;
       numbers_distinct = AllPairs-filter (λ x y. x.number ≢ y.number) test groups facts.numbers_distinct;
@@ -426,10 +458,11 @@ parent-there groups n path facts e =
     (All-contains (λ x. IsTrue (is_some (number_at groups (parent_path x.path)))) groups h.0 facts.parents (group_at-contains groups n h.0 h.1).0)
 
 -- ---- a change of rows
--- the change keeps each row's number and path
+-- the change keeps each row's number, path and descendants
 pub record KeepsNames (f : Group → Group) : Type 0 where
   pub number : (g : Group) → (f g).number ≡ g.number
   pub path : (g : Group) → (f g).path ≡ g.path
+  pub descendants : (g : Group) → (f g).descendants ≡ g.descendants
 
 pub list_any-map : {X : Type 0} (p : X → Bool) (f : X → X) → ((x : X) → p (f x) ≡ p x) → (xs : List X) → list_any p (map f xs) ≡ list_any p xs
 list_any-map p f same [] = refl
@@ -456,6 +489,15 @@ module _ (f : Group → Group) (keeps : KeepsNames f) where
   unfolding group_at
   group_at-changed groups k = find-map (λ (g : Group). g.number == k) f (λ g. ap (λ m. m == k) (keeps.number g)) groups
 
+  pub room_of-changed : (groups : List Group) → room_of (map f groups) ≡ room_of groups
+  unfolding room_of
+  room_of-changed groups =
+      ap (λ n. 1 + n) (ap (λ o. option_map_or (λ (g : Group). g.descendants) o 0) (group_at-changed groups 0) ∙ at (group_at groups 0))
+    where
+      at : (o : Option Group) → option_map_or (λ (g : Group). g.descendants) (option_map f o) 0 ≡ option_map_or (λ (g : Group). g.descendants) o 0
+      at None = refl
+      at (Some g) = keeps.descendants g
+
   has_path-changed : (groups : List Group) (path : List ℕ) → is_some (number_at (map f groups) path) ≡ is_some (number_at groups path)
   has_path-changed groups path =
       has_path-any (map f groups) path
@@ -470,11 +512,12 @@ module _ (f : Group → Group) (keeps : KeepsNames f) where
   -- the root's flag must stay off as well
   pub AreGroups-changed : (groups : List Group) → AreGroups groups → is_oom_group (map f groups) 0 ≡ false → AreGroups (map f groups)
   AreGroups-changed groups facts off = record {
-    few = omega (arith, facts.few, length-map groups f);
+    few = omega (arith, facts.few, length-map groups f, room_of-changed groups);
+    room = omega (arith, facts.room, room_of-changed groups);
     root = root-changed groups facts.root;
     root_flag = off;
-    numbers = All-map (λ (x : Group). x.number < most_groups) f groups
-        (λ k d lt. subst (λ m. m < most_groups) (sym (keeps.number (get_or groups k d))) (facts.numbers k d lt));
+    numbers = All-map (λ (x : Group). x.number < room_of (map f groups)) f groups
+        (λ k d lt. omega (arith, keeps.number (get_or groups k d), facts.numbers k d lt, room_of-changed groups));
     paths = All-map (λ (x : Group). IsWellFormed x.path) f groups
         (λ k d lt. subst IsWellFormed (sym (keeps.path (get_or groups k d))) (facts.paths k d lt));
     depths = All-map (λ (x : Group). depth_of x.path ≤ 8) f groups
@@ -513,8 +556,16 @@ limited-flag : (n : ℕ) (limit : Option ℕ) (g : Group) → (limited n limit g
 limited-flag n limit g =
     cond_both (g.number == n) (record g { limit = limit }) g (λ (x : Group). x.oom_group ≡ g.oom_group) (λ _. refl) (λ _. refl)
 
+limited-descendants : (n : ℕ) (limit : Option ℕ) (g : Group) → (limited n limit g).descendants ≡ g.descendants
+limited-descendants n limit g =
+    cond_both (g.number == n) (record g { limit = limit }) g (λ (x : Group). x.descendants ≡ g.descendants) (λ _. refl) (λ _. refl)
+
 pub limited-keeps : (n : ℕ) (limit : Option ℕ) → KeepsNames (limited n limit)
-limited-keeps n limit = record { number = limited-number n limit; path = limited-path n limit }
+limited-keeps n limit = record { number = limited-number n limit; path = limited-path n limit; descendants = limited-descendants n limit }
+
+pub room_of-limited : (groups : List Group) (n : ℕ) (limit : Option ℕ) → room_of (with_limit groups n limit) ≡ room_of groups
+unfolding with_limit
+room_of-limited groups n limit = room_of-changed (limited n limit) (limited-keeps n limit) groups
 
 pub is_oom_group-limited : (groups : List Group) (n k : ℕ) (limit : Option ℕ) → is_oom_group (with_limit groups n limit) k ≡ is_oom_group groups k
 unfolding with_limit
@@ -539,8 +590,16 @@ flagged-path n flag g = cond_both (g.number == n) (record g { oom_group = flag }
 pub flagged-limit : (n : ℕ) (flag : Bool) (g : Group) → (flagged n flag g).limit ≡ g.limit
 flagged-limit n flag g = cond_both (g.number == n) (record g { oom_group = flag }) g (λ (x : Group). x.limit ≡ g.limit) (λ _. refl) (λ _. refl)
 
+flagged-descendants : (n : ℕ) (flag : Bool) (g : Group) → (flagged n flag g).descendants ≡ g.descendants
+flagged-descendants n flag g =
+    cond_both (g.number == n) (record g { oom_group = flag }) g (λ (x : Group). x.descendants ≡ g.descendants) (λ _. refl) (λ _. refl)
+
 pub flagged-keeps : (n : ℕ) (flag : Bool) → KeepsNames (flagged n flag)
-flagged-keeps n flag = record { number = flagged-number n flag; path = flagged-path n flag }
+flagged-keeps n flag = record { number = flagged-number n flag; path = flagged-path n flag; descendants = flagged-descendants n flag }
+
+pub room_of-flagged : (groups : List Group) (n : ℕ) (flag : Bool) → room_of (with_oom_group groups n flag) ≡ room_of groups
+unfolding with_oom_group
+room_of-flagged groups n flag = room_of-changed (flagged n flag) (flagged-keeps n flag) groups
 
 pub is_oom_group-flagged_other : (groups : List Group) (n k : ℕ) (flag : Bool) → k ≢ n →
     is_oom_group (with_oom_group groups n flag) k ≡ is_oom_group groups k

@@ -4,74 +4,77 @@ use Rattle.std.proofs.Common.{◌≡◌, ◌≢◌, ℕ, ◌+◌, ◌<◌, false
 use Rattle.std.proofs.Common.{set, replicate, Contains, is_some, refl, sym, ap, ◌∙◌, subst, arith, ⊎_elim, length-append, Bool, true}
 use Rattle.std.specs.Option.{option_and_then, option_map_or}
 use Rattle.std.proofs.lemmas.Bool.{cases_lt, both_ways, cases_Bool, cases_eq, cond-false, cond-true, eq-eqb, ne_eqb}
-use Rattle.std.proofs.lemmas.List.{get_or_default, get_or_past, get_or-set_other, get_or-set_same, get_or-replicate, length-set, length-replicate}
+use Rattle.std.proofs.lemmas.List.{get_or_past, get_or-set_other, get_or-set_same, get_or-replicate, length-set, length-replicate}
 use Rattle.std.proofs.lemmas.List.Elements.{All-contains, All-filter, All-map, Contains-get_or, Contains-push_cases}
 use Rattle.std.proofs.lemmas.Option.{same_Some}
 use Rattle.group_tree.specs.declared.group.Group.{Group}
 use Rattle.group_tree.specs.declared.tree.Slot.{Slot}
-use Rattle.group_tree.specs.Bounds.{most_groups}
 use Rattle.group_tree.specs.Path.{depth_of, names_of, parent_path}
-use Rattle.group_tree.specs.Groups.{the_root, initial_groups, group_at, has_group, limit_of, number_at, parent_of, path_of, with_group, with_limit}
+use Rattle.group_tree.specs.Groups.{the_root, initial_groups, group_at, has_group, limit_of, number_at, parent_of, path_of, room_of, with_group, with_limit}
 use Rattle.group_tree.specs.Groups.{new_row, without_group, limited, with_oom_group, flagged, AreGroups}
 use Rattle.group_tree.specs.Slots.{AreSlots, slot_at, free_slot}
 use Rattle.group_tree.specs.Ancestors.{depth_at}
 use Rattle.group_tree.proofs.PathLemmas.{names_parent}
-use Rattle.group_tree.proofs.GroupLemmas.{CanMake, All-one, some_is, has_group-contains, has_group-is, group_at-contains, number_at-contains}
+use Rattle.group_tree.proofs.GroupLemmas.{CanMake, All-one, room_of-initial, room_of-with, room_of-limited, room_of-flagged, room_of-without, some_is, has_group-contains, has_group-is, group_at-contains, number_at-contains}
 use Rattle.group_tree.proofs.GroupLemmas.{number_at-there, path_of-at, parent_of-below, parent-there, limited-number, limited-path}
 use Rattle.group_tree.proofs.GroupLemmas.{flagged-number, flagged-path, flagged-limit}
 use Rattle.group_tree.proofs.CallerLemmas.{has_group-with, has_group-with_new, has_group-limited, has_group-flagged, has_group-without, has_group-without_own}
 
--- ---- a new tree
-one_number : (x : Group) → Contains initial_groups x → x.number ≡ 0
-one_number x h = All-contains (λ (y : Group). y.number ≡ 0) initial_groups x (All-one (λ (y : Group). y.number ≡ 0) the_root refl) h
+-- ---- a new tree, below whose root this many groups may exist
+module _ (below : ℕ) where
+  one_number : (x : Group) → Contains (initial_groups below) x → x.number ≡ 0
+  one_number x h = All-contains (λ (y : Group). y.number ≡ 0) (initial_groups below) x (All-one (λ (y : Group). y.number ≡ 0) (the_root below) refl) h
 
-one_depth : (x : Group) → Contains initial_groups x → depth_of x.path ≡ 0
-unfolding names_of
-one_depth x h = All-contains (λ (y : Group). depth_of y.path ≡ 0) initial_groups x (All-one (λ (y : Group). depth_of y.path ≡ 0) the_root refl) h
+  one_depth : (x : Group) → Contains (initial_groups below) x → depth_of x.path ≡ 0
+  unfolding names_of
+  one_depth x h =
+      All-contains (λ (y : Group). depth_of y.path ≡ 0) (initial_groups below) x (All-one (λ (y : Group). depth_of y.path ≡ 0) (the_root below) refl) h
 
-one_limit : (x : Group) → Contains initial_groups x → x.limit ≡ None
-one_limit x h = All-contains (λ (y : Group). y.limit ≡ None) initial_groups x (All-one (λ (y : Group). y.limit ≡ None) the_root refl) h
+  one_limit : (x : Group) → Contains (initial_groups below) x → x.limit ≡ None
+  one_limit x h =
+      All-contains (λ (y : Group). y.limit ≡ None) (initial_groups below) x (All-one (λ (y : Group). y.limit ≡ None) (the_root below) refl) h
 
--- the root's number is the only one
-alone : (n : ℕ) → n ≢ 0 → has_group initial_groups n ≡ false
-unfolding has_group group_at
-alone n other = ap is_some (cond-false (0 == n) (Some the_root) None (ne_eqb 0 n (λ e. other (sym e))))
+  -- the root's number is the only one
+  alone : (n : ℕ) → n ≢ 0 → has_group (initial_groups below) n ≡ false
+  unfolding has_group group_at
+  alone n other = ap is_some (cond-false (0 == n) (Some (the_root below)) None (ne_eqb 0 n (λ e. other (sym e))))
 
--- the slots of numbers that no group has
-none_there : (n : ℕ) → slot_at (replicate most_groups free_slot) n ≡ free_slot
-none_there n = ⊎_elim
-    (λ lt. get_or-replicate most_groups n free_slot free_slot lt)
-    (λ le. get_or_past (replicate most_groups free_slot) n free_slot (omega (arith, le, length-replicate most_groups free_slot)))
-    (cases_lt n most_groups)
+  root_here : has_group (initial_groups below) 0 ≡ true
+  unfolding has_group group_at
+  root_here = refl
 
--- only the root's number is a group's
-abbrev pub first_slots : List Slot
-first_slots = set (replicate most_groups free_slot) 0 (record free_slot { is_there = true })
+  -- the slots of numbers that no group has
+  abbrev none : List Slot
+  none = replicate (1 + below) free_slot
 
-first_at : (n : ℕ) → (slot_at first_slots n).is_there ≡ has_group initial_groups n
-unfolding has_group group_at
-first_at n = ⊎_elim
-    (λ zero.
-    let within : 0 < length (replicate most_groups free_slot) = omega (arith, length-replicate most_groups free_slot) in
-    ap (λ k. (slot_at first_slots k).is_there) zero
-    ∙ ap (λ (l : Slot). l.is_there) (get_or-set_same (replicate most_groups free_slot) 0 (record free_slot { is_there = true }) free_slot within)
-    ∙ sym (ap (has_group initial_groups) zero))
-    (λ other. ap (λ (l : Slot). l.is_there) (get_or-set_other (replicate most_groups free_slot) 0 n (record free_slot { is_there = true }) free_slot other ∙ none_there n)
-    ∙ sym (alone n other))
-    (cases_eq n 0)
+  none_there : (n : ℕ) → slot_at none n ≡ free_slot
+  none_there n = ⊎_elim
+      (λ lt. get_or-replicate (1 + below) n free_slot free_slot lt)
+      (λ le. get_or_past none n free_slot (omega (arith, le, length-replicate (1 + below) free_slot)))
+      (cases_lt n (1 + below))
 
-pub AreSlots-initial : (slots : List Slot) → slots ≡ first_slots → AreSlots initial_groups slots
-AreSlots-initial slots e =
-    let within : 0 < length (replicate most_groups free_slot) = omega (arith, length-replicate most_groups free_slot) in
-    let first : slot_at slots 0 ≡ record free_slot { is_there = true } = ap (λ ls. slot_at ls 0) e
-    ∙ get_or-set_same (replicate most_groups free_slot) 0 (record free_slot { is_there = true }) free_slot within in
-    record {
-      size = ap length e ∙ length-set (replicate most_groups free_slot) 0 (record free_slot { is_there = true }) ∙ length-replicate most_groups free_slot;
-      there = λ n. ap (λ ls. (slot_at ls n).is_there) e ∙ first_at n;
-      parents = λ x y hx hy same. ap (λ n. (slot_at slots n).parent) (one_number x hx) ∙ ap (λ (l : Slot). l.parent) first ∙ sym (one_number y hy);
-      depths = λ x hx. ap (λ n. (slot_at slots n).depth) (one_number x hx) ∙ ap (λ (l : Slot). l.depth) first ∙ sym (one_depth x hx);
-      limits = λ x hx. ap (λ n. (slot_at slots n).limit) (one_number x hx) ∙ ap (λ (l : Slot). l.limit) first ∙ sym (one_limit x hx);
-    }
+  -- only the root's number is a group's
+  abbrev first : Slot
+  first = record free_slot { is_there = true }
+
+  abbrev pub first_slots : List Slot
+  first_slots = set none 0 first
+
+  pub AreSlots-initial : (slots : List Slot) → slots ≡ first_slots → AreSlots (initial_groups below) slots
+  AreSlots-initial slots e =
+      let within : 0 < length none = omega (arith, length-replicate (1 + below) free_slot) in
+      let here : slot_at slots 0 ≡ first = ap (λ ls. slot_at ls 0) e ∙ get_or-set_same none 0 first free_slot within in
+      record {
+        size = ap length e ∙ length-set none 0 first ∙ length-replicate (1 + below) free_slot ∙ sym (room_of-initial below);
+        there = λ n. ⊎_elim
+            (λ zero. ap (λ k. (slot_at slots k).is_there) zero ∙ ap (λ (l : Slot). l.is_there) here ∙ sym (ap (has_group (initial_groups below)) zero ∙ root_here))
+            (λ other. ap (λ ls. (slot_at ls n).is_there) e
+            ∙ ap (λ (l : Slot). l.is_there) (get_or-set_other none 0 n first free_slot other ∙ none_there n) ∙ sym (alone n other))
+            (cases_eq n 0);
+        parents = λ x y hx hy same. ap (λ n. (slot_at slots n).parent) (one_number x hx) ∙ ap (λ (l : Slot). l.parent) here ∙ sym (one_number y hy);
+        depths = λ x hx. ap (λ n. (slot_at slots n).depth) (one_number x hx) ∙ ap (λ (l : Slot). l.depth) here ∙ sym (one_depth x hx);
+        limits = λ x hx. ap (λ n. (slot_at slots n).limit) (one_number x hx) ∙ ap (λ (l : Slot). l.limit) here ∙ sym (one_limit x hx);
+      }
 
 -- ---- one more group
 -- the group of a number that is free is none of these
@@ -93,7 +96,7 @@ no_new_parent groups path x facts can here e =
     ∙ All-contains (λ (y : Group). IsTrue (is_some (number_at groups (parent_path y.path)))) groups x facts.parents here)
 
 pub AreSlots-with : (groups : List Group) (slots : List Slot) (n p : ℕ) (path : List ℕ) → AreGroups groups → AreSlots groups slots →
-    CanMake groups path → n < most_groups → has_group groups n ≡ false → number_at groups (parent_path path) ≡ Some p →
+    CanMake groups path → n < room_of groups → has_group groups n ≡ false → number_at groups (parent_path path) ≡ Some p →
     AreSlots (with_group groups n path) (set slots n (record { is_there = true; parent = p; depth = depth_of path; limit = None }))
 AreSlots-with groups slots n p path facts are can below free up =
     let row : Group = new_row n path in
@@ -102,7 +105,7 @@ AreSlots-with groups slots n p path facts are can below free up =
     let within : n < length slots = omega (arith, are.size) in
     let here : slot_at new n ≡ slot = get_or-set_same slots n slot free_slot within in
     record {
-      size = length-set slots n slot ∙ are.size;
+      size = length-set slots n slot ∙ are.size ∙ sym (room_of-with groups n path);
       there = λ k. ⊎_elim
           (λ same. ap (λ j. (slot_at new j).is_there) same ∙ ap (λ (l : Slot). l.is_there) here
           ∙ sym (ap (has_group (with_group groups n path)) same ∙ has_group-with_new groups n path free))
@@ -200,12 +203,12 @@ module _ (slots : List Slot) (n : ℕ) (limit : Option ℕ) (within : n < length
       (λ other. ap (λ (l : Slot). l.is_there) (limit_set-other k other))
       (cases_eq k n)
 
-pub AreSlots-limited : (groups : List Group) (slots : List Slot) (n : ℕ) (limit : Option ℕ) → n < most_groups → AreSlots groups slots →
+pub AreSlots-limited : (groups : List Group) (slots : List Slot) (n : ℕ) (limit : Option ℕ) → n < room_of groups → AreSlots groups slots →
     AreSlots (with_limit groups n limit) (limit_set slots n limit)
 AreSlots-limited groups slots n limit below are =
     let within : n < length slots = omega (arith, are.size) in
     record {
-      size = length-set slots n (record (slot_at slots n) { limit = limit }) ∙ are.size;
+      size = length-set slots n (record (slot_at slots n) { limit = limit }) ∙ are.size ∙ sym (room_of-limited groups n limit);
       there = λ k. limit_set-there slots n limit within k ∙ are.there k ∙ sym (has_group-limited groups n k limit);
       parents = λ x y hx hy e.
           let u = was_row groups n limit x hx in
@@ -258,7 +261,7 @@ was_flagged groups n flag x h =
 
 pub AreSlots-flagged : (groups : List Group) (slots : List Slot) (n : ℕ) (flag : Bool) → AreSlots groups slots → AreSlots (with_oom_group groups n flag) slots
 AreSlots-flagged groups slots n flag are = record {
-  size = are.size;
+  size = are.size ∙ sym (room_of-flagged groups n flag);
   there = λ k. are.there k ∙ sym (has_group-flagged groups n k flag);
   parents = λ x y hx hy e.
       let u = was_flagged groups n flag x hx in
@@ -285,15 +288,15 @@ still_other : (groups : List Group) (n : ℕ) (x : Group) → Contains (without_
 still_other groups n x h = λ same. both_ways (has_group (without_group groups n) n) (has_group-without_own groups n)
     (subst (λ m. IsTrue (has_group (without_group groups n) m)) same (has_group-contains (without_group groups n) x h))
 
-pub AreSlots-without : (groups : List Group) (slots : List Slot) (n : ℕ) → n < most_groups → AreSlots groups slots →
+pub AreSlots-without : (groups : List Group) (slots : List Slot) (n : ℕ) → n < room_of groups → n ≢ 0 → AreSlots groups slots →
     AreSlots (without_group groups n) (set slots n free_slot)
-AreSlots-without groups slots n below are =
+AreSlots-without groups slots n below other_than_root are =
     let new : List Slot = set slots n free_slot in
     let within : n < length slots = omega (arith, are.size) in
     let stays : (x : Group) → Contains (without_group groups n) x → slot_at new x.number ≡ slot_at slots x.number =
     λ x hx. get_or-set_other slots n x.number free_slot free_slot (still_other groups n x hx) in
     record {
-      size = length-set slots n free_slot ∙ are.size;
+      size = length-set slots n free_slot ∙ are.size ∙ sym (room_of-without groups n other_than_root);
       there = λ k. ⊎_elim
           (λ same. ap (λ j. (slot_at new j).is_there) same ∙ ap (λ (l : Slot). l.is_there) (get_or-set_same slots n free_slot free_slot within)
           ∙ sym (ap (has_group (without_group groups n)) same ∙ has_group-without_own groups n))
@@ -333,9 +336,3 @@ limit-slot groups slots g are there =
     let x = w.0 in
     let c = group_at-contains groups g x w.1 in
     ap (λ k. (slot_at slots k).limit) (sym c.1) ∙ are.limits x c.0 ∙ sym (ap (option_and_then (λ (y : Group). y.limit)) w.1)
-
--- a slot is read at the group's number
-pub slot_read : (slots : List Slot) (i g : ℕ) (d : Slot) → length slots ≡ most_groups → i < most_groups → i ≡ g → get_or slots i d ≡ slot_at slots g
-slot_read slots i g d size below e =
-    let within : i < length slots = omega (arith, size) in
-    get_or_default slots i d free_slot within ∙ ap (slot_at slots) e

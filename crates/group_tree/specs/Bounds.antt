@@ -1,8 +1,7 @@
 -- How large a tree of groups and its paths may be.
 use Rattle.std.specs.Prelude.{ℕ}
 
--- the most groups that exist at once, the root included (Linux sets such a bound by cgroup.max.descendants,
--- cgroup-v2.rst)
+-- the most groups that a tree may have room for, the root included
 abbrev pub most_groups : ℕ
 most_groups = 64
 

@@ -3,10 +3,9 @@
 use Rattle.std.specs.Prelude.{◌≡◌, ℕ, false, None, List, length, Contains}
 use Rattle.std.specs.List.{slice_index_or}
 use Rattle.group_tree.specs.declared.group.Group.{Group}
-use Rattle.group_tree.specs.Bounds.{most_groups}
 use Rattle.group_tree.specs.declared.tree.Slot.{Slot}
 use Rattle.group_tree.specs.Path.{depth_of, parent_path}
-use Rattle.group_tree.specs.Groups.{has_group}
+use Rattle.group_tree.specs.Groups.{has_group, room_of}
 
 -- the slot of a number that no group has
 abbrev pub free_slot : Slot
@@ -19,7 +18,7 @@ slot_at slots g = slice_index_or slots g free_slot
 -- Each slot says whether a group has the number. A group's slot has its parent's number (the root's has its own), the
 -- number of names in its path, and its limit.
 pub record AreSlots (groups : List Group) (slots : List Slot) : Type 0 where
-  pub size : length slots ≡ most_groups
+  pub size : length slots ≡ room_of groups
   pub there : (n : ℕ) → (slot_at slots n).is_there ≡ has_group groups n
   pub parents : (x y : Group) → Contains groups x → Contains groups y → y.path ≡ parent_path x.path
       → (slot_at slots x.number).parent ≡ y.number

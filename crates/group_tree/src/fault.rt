@@ -18,7 +18,7 @@ pub enum Fault {
     /// The path is malformed, or it is the root's: the root can neither be made nor removed.
     #[error("the path is malformed or that of the root")]
     BadName,
-    /// 64 groups exist, which is the most.
+    /// As many groups exist as the tree has room for.
     #[error("there is no room for one more group")]
     TreeFull,
     /// The path is well-formed but has more than 8 names.

@@ -6,7 +6,7 @@ ghost use Rattle.group_tree.specs.Bounds.{most_groups};
 use crate::path::PathText;
 use std::marker::Model;
 
-/// The most groups that exist at once, the root included.
+/// The most groups that a tree may have room for, the root included.
 pub const MAX_GROUPS: usize = 64;
 
 /// The number of a group, below [`MAX_GROUPS`]; the root has 0. It takes one byte because the record of each frame holds one.
@@ -70,4 +70,6 @@ pub struct Group {
     pub limit: Option<u32>,
     /// memory.oom.group: whether the group is killed as a whole.
     pub oom_group: bool,
+    /// Of the root, how many groups may exist below it (cgroup.max.descendants); of the others 0.
+    pub descendants: u32,
 }

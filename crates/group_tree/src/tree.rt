@@ -1,32 +1,32 @@
 //! The tree of groups.
 
 ghost use Rattle.std.specs.Prelude.{◌≡◌, ◌≢◌, ℕ, ◌↔◌, ◌<◌, ◌==◌, ◌&&◌, false, not, length, IfOk, IsNone, IsTrue, OnErr};
-ghost use Rattle.std.specs.Prelude.{Some};
+ghost use Rattle.std.specs.Prelude.{Some, ◌≤◌, replicate};
 ghost use Rattle.std.specs.Option.{option_copied};
 ghost use Rattle.std.specs.Result.{result_err};
 ghost use Rattle.group_tree.specs.Ancestors.{depth_at};
 ghost use Rattle.group_tree.specs.Bounds.{most_groups};
-ghost use Rattle.group_tree.specs.Slots.{free_slot};
+ghost use Rattle.group_tree.specs.Slots.{free_slot, slot_at};
 ghost use Rattle.group_tree.specs.Path.{IsWellFormed};
 ghost use Rattle.group_tree.specs.Groups.{AreGroups, IsLeastFreeNumber, flagged, group_at, has_child, has_group};
 ghost use Rattle.group_tree.specs.Groups.{in_subtree, initial_groups, is_oom_group, limit_of, limited, make_fault};
-ghost use Rattle.group_tree.specs.Groups.{number_at, parent_of, path_of, the_root, with_group, with_limit};
+ghost use Rattle.group_tree.specs.Groups.{number_at, parent_of, path_of, room_of, the_root, with_group, with_limit};
 ghost use Rattle.group_tree.specs.Groups.{with_oom_group, without_group};
 
 use crate::fault::Fault;
-use crate::group::{Group, GroupId, MAX_GROUPS};
+use crate::group::{Group, GroupId};
 use crate::names;
 use crate::path::{MAX_DEPTH, PathText};
 use std::alloc::{AllocError, Global};
 use std::marker::Model;
 
 /// The groups of a controller. A contract sees them as a list, in the order in which they were made. `new` reserves
-/// room for [`MAX_GROUPS`] groups, so that no later call allocates.
+/// the room for all groups, so that no later call allocates.
 #[derive(Debug, Drop)]
 pub struct Tree {
     rows: Vec<Group>,
     // By number: whether a group has it, and what a walk to the root needs of that group.
-    slots: [Slot; MAX_GROUPS],
+    slots: Vec<Slot>,
 }
 
 // What the tree keeps of a group by its number, beside its row.
@@ -44,26 +44,27 @@ struct Slot {
 
 impl Model for Tree {
     ghost use Rattle.std.specs.Prelude.{◌≤◌, List, vec_capacity};
-    ghost use Rattle.group_tree.specs.Groups.{AreGroups, Group};
-    ghost use Rattle.group_tree.specs.Bounds.{most_groups};
+    ghost use Rattle.group_tree.specs.Groups.{AreGroups, Group, room_of};
     ghost use Rattle.group_tree.specs.Slots.{AreSlots};
 
     ghost Value = { List Group };
 
     ghost view = { λ t. t.rows.items };
 
-    ghost invariant = { λ t. AreGroups t.rows.items × (most_groups ≤ vec_capacity t.rows)
-        × AreSlots t.rows.items t.slots };
+    ghost invariant = { λ t. AreGroups t.rows.items × (room_of t.rows.items ≤ vec_capacity t.rows)
+        × AreSlots t.rows.items t.slots.items };
 }
 
 impl Tree {
-    /// The root alone, without a limit.
-    pub fn new(alloc: Global) -> Result<Tree, AllocError>
-        ensures { IfOk result (λ tree. tree ≡ initial_groups) }
+    /// The root alone, without a limit, with room for this many groups below it: at most [`MAX_GROUPS`] - 1.
+    pub fn new(alloc: Global, descendants: u32) -> Result<Tree, AllocError>
+        requires { descendants < most_groups }
+        ensures { IfOk result (λ tree. tree ≡ initial_groups descendants) }
     {
-        let mut rows = Vec::with_capacity(alloc, MAX_GROUPS)?;
-        rows.push(root_group()).unwrap();
-        let mut slots = [free_slot(); MAX_GROUPS];
+        let room = descendants as usize + 1;
+        let mut rows = Vec::with_capacity(alloc, room)?;
+        rows.push(root_group(descendants)).unwrap();
+        let mut slots = free_slots(alloc, room)?;
         slots[0].is_there = true;
         Ok(Tree { rows, slots })
     }
@@ -88,8 +89,7 @@ impl Tree {
         ensures { result ≡ has_group self.now group }
     {
         let _rows = &self.rows; // Borrowed for the invariant.
-        let slot = self.slots[group.number() as usize];
-        slot.is_there
+        slot_at(self.slots.as_slice(), group.number()).is_there
     }
 
     /// The group with this path, or None if no group has it.
@@ -122,8 +122,7 @@ impl Tree {
         ensures { result ≡ limit_of self.now group }
     {
         let _rows = &self.rows; // Borrowed for the invariant.
-        let slot = self.slots[group.number() as usize];
-        slot.limit
+        slot_at(self.slots.as_slice(), group.number()).limit
     }
 
     /// Whether an existing group is killed as a whole (memory.oom.group); the root never is.
@@ -147,8 +146,7 @@ impl Tree {
             return None;
         }
         let _rows = &self.rows; // Borrowed for the invariant.
-        let slot = self.slots[group.number() as usize];
-        Some(slot.parent)
+        Some(slot_at(self.slots.as_slice(), group.number()).parent)
     }
 
     /// How many names the path of an existing group has: 0 exactly for the root, and at most 8.
@@ -157,8 +155,7 @@ impl Tree {
         ensures { result ≡ depth_at self.now group }
     {
         let _rows = &self.rows; // Borrowed for the invariant.
-        let slot = self.slots[group.number() as usize];
-        slot.depth
+        slot_at(self.slots.as_slice(), group.number()).depth
     }
 
     /// Whether the second of two existing groups is the first or lies below it.
@@ -207,7 +204,7 @@ impl Tree {
             Some(Fault::Exists)
         } else if self.find(names::parent_path(path)).is_none() {
             Some(Fault::NoParent)
-        } else if self.rows.len() >= MAX_GROUPS {
+        } else if self.rows.len() >= self.slots.len() {
             Some(Fault::TreeFull)
         } else {
             None
@@ -218,14 +215,16 @@ impl Tree {
     fn is_taken(&self, number: u32) -> bool
         ensures { result ≡ has_group self.now number }
     {
-        self.rows.iter().any(|row| row.number.number() == number)
+        let _rows = &self.rows; // Borrowed for the invariant.
+        slot_at(self.slots.as_slice(), number).is_there
     }
 
     fn least_free(&self) -> GroupId
-        requires { length self.now < most_groups }
+        requires { length self.now < room_of self.now }
         ensures number { IsLeastFreeNumber self.now result }
-        ensures below { result < most_groups }
+        ensures below { result < room_of self.now }
     {
+        let _groups = self.groups(); // Called for its contract.
         let mut number = 0;
         while self.is_taken(number) {
             number += 1;
@@ -255,6 +254,7 @@ impl Tree {
             path,
             limit: None,
             oom_group: false,
+            descendants: 0,
         };
         self.rows.push(row).unwrap();
         self.slots[number.number() as usize] = Slot {
@@ -298,14 +298,15 @@ impl Tree {
 }
 
 // The root, as in a new tree.
-fn root_group() -> Group
-    ensures { result ≡ the_root }
+fn root_group(descendants: u32) -> Group
+    ensures { result ≡ the_root descendants }
 {
     Group {
         number: GroupId::root(),
         path: PathText::of(b"/").unwrap(),
         limit: None,
         oom_group: false,
+        descendants,
     }
 }
 
@@ -317,6 +318,23 @@ fn free_slot() -> Slot
         parent: GroupId::root(),
         depth: 0,
         limit: None,
+    }
+}
+
+fn free_slots(alloc: Global, room: usize) -> Result<Vec<Slot>, AllocError>
+    ensures { IfOk result (λ slots. slots.items ≡ replicate room free_slot) }
+{
+    vec![in alloc; free_slot(); room]
+}
+
+// What a tree keeps of this number. A number beyond its room is free.
+#[inline]
+fn slot_at(slots: &[Slot], number: u32) -> Slot
+    ensures { result ≡ slot_at slots.now number }
+{
+    match slots.get(number as usize) {
+        Some(slot) => *slot,
+        None => free_slot(),
     }
 }
 

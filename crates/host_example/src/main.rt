@@ -15,7 +15,7 @@ use zone_blocks::buddy::Buddy;
 use zone_blocks::order::Order;
 
 fn main(rt: HostRuntime) -> Result<()> {
-    let mut charges = Charges::new(rt.alloc())?;
+    let mut charges = Charges::new(rt.alloc(), 8)?;
     let mut zone = Buddy::new(rt.alloc(), 16)?;
     run_demo(&rt, &mut charges, &mut zone)
 }

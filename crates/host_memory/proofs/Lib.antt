@@ -1,3 +1,4 @@
+pub mod Crossing
 pub mod Moves
 pub mod Numbers
 pub mod Sends

@@ -1,6 +1,6 @@
 -- A function that makes a struct of a pointer and the heap's handle, whatever else the struct owns: of the two fields of
 -- another such struct (`moved`), or of null and a handle (`made` with `makes_null`).
-use Rattle.host_memory.proofs.Walks.{◌≡◌, refl, sym, subst, List, [], ◌∷◌, ◌++◌, T, Ura, Fn, ty_ptr, Val, SProp, ent, Fml, ftrue, fsep, WpFn, Logic, fact, tables, Item, ⋆, ‵, raw, ◌⊛◌, ◌$◌, ◌∵◌, !, qed, by, move, drop, use1, join, split, fsplit, fjoin, suffices, done}
+use Rattle.host_memory.proofs.Walks.{◌≡◌, refl, sym, subst, false≢true, IsSome, Option, Some, None, List, [], ◌∷◌, ◌++◌, T, Ura, Fn, ty_ptr, Val, SProp, ent, Fml, ftrue, fsep, WpFn, Logic, fact, tables, Item, ⋆, ‵, raw, ◌⊛◌, ◌$◌, ◌∵◌, !, qed, by, move, drop, use1, join, split, fsplit, fjoin, suffices, done}
 use Rattle.host_memory.proofs.Walks.{whole, sub, agg, stop, fld, no_more, and_then, of_opd, lit, returns, enter, alloc_all, pass_all, free_all, look_at, get, get_in, sets, RattleType, Ptr, null_ptr, plain, heard, nothing, shape, Shape, Struct, Ended, Clauses, Stays, stay_dropped}
 use Rattle.host_memory.proofs.Walks.{walk_of, al, α, Goes-blank, handle_tells, word, ptr_typed, word_typed, with_parts, parts_out, parts_in}
 use Prim.Native.Nat.{ℕ}
@@ -47,6 +47,11 @@ makes to e = record e {
 -- what such a struct owns, if it owns F besides
 abbrev pub owned : Shape → Ptr → Heap.the_row.Denot → Fml → List Val → Fml
 owned S p a F vs = fsep ((Struct (with_parts S)).own_val (p, (a, tt)) vs) F
+
+-- what an option has
+pub some_of : {K : Type 0} (o : Option K) → IsSome o → (k : K) × (Some k ≡ o)
+some_of None some = absurd (false≢true some)
+some_of (Some k) some = (k, refl)
 
 module _ {M : Type 1} (𝓤 : Ura M) where
   pub shown : {φ : Type 0} → φ → ent 𝓤 (emp 𝓤) (fact 𝓤 φ)

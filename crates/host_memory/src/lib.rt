@@ -4,6 +4,7 @@
 
 pub mod box_parts;
 pub mod buffers;
+pub mod groups;
 pub mod kinds;
 pub mod report;
 pub mod sizes;

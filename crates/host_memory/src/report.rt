@@ -1,5 +1,10 @@
 //! What a host reads of the end of a boot or a zone.
 
+ghost use Rattle.std.specs.Prelude.{◌≡◌};
+ghost use Rattle.host_memory.specs.Reports.{end_of};
+
+use mem_system::SystemEnd;
+
 /// What is reported at the end, in the order and of the widths that the header gives.
 #[repr(C)]
 #[derive(Clone, Copy, Debug, PartialEq, Eq)]
@@ -20,4 +25,20 @@ pub struct Report {
     pub free: u32,
     /// The frames that are charged to a group.
     pub charged: u32,
+}
+
+/// The report of an end.
+pub fn report_of(ended: SystemEnd) -> Report
+    ensures { end_of result ≡ ended }
+{
+    Report {
+        held: ended.held,
+        last_puts: ended.audit.last_puts,
+        freezes: ended.audit.freezes,
+        drops: ended.audit.drops,
+        returns: ended.audit.returns,
+        frames: ended.audit.frames,
+        free: ended.audit.free,
+        charged: ended.audit.charged,
+    }
 }

@@ -1,11 +1,15 @@
 //! What a typed call gives its host.
 
 ghost use Rattle.std.specs.Prelude.{◌≡◌};
-ghost use Rattle.host_memory.specs.Kinds.{get_result, put_result, result_with};
+ghost use Rattle.host_memory.specs.Kinds.{get_result, outcome_result, outcome_status, put_result, result_with};
 
-use crate::kinds::{FULL, HELD, LAST, LEFT, RACED, ZERO};
-use crate::status::DONE;
+use crate::kinds::{
+    ACTIVE, CHARGED, CPU, FRAME, FREE, FULL, GROUP, HELD, LAST, LEFT, MARKED, OK, RACED, REFUSED,
+    RETURNED, TEXT, ZERO,
+};
+use crate::status::{DONE, OVER_LIMIT};
 use frame_word::{Get, Put};
+use mem_system::Outcome;
 
 /// What a typed call gives its host: a kind, and the number that goes with it.
 #[repr(C)]
@@ -61,5 +65,30 @@ pub fn answer_of_put(put: &Put) -> TypedAnswer
     match put {
         Put::Left(left) => with_number(DONE, LEFT, *left),
         Put::Last => with_number(DONE, LAST, 0),
+    }
+}
+
+/// The result of an outcome. That of a text has no length: who writes the text gives it.
+#[inline(always)]
+#[tactic(auto, using(crate::proofs::Numbers::number_low))]
+pub fn answer_of_outcome(outcome: &Outcome) -> TypedAnswer
+    ensures status { result.status ≡ outcome_status outcome.now }
+    ensures typed { result.typed ≡ outcome_result 0 outcome.now }
+{
+    match *outcome {
+        Outcome::Group(group) => with_number(DONE, GROUP, u64::from(group.number())),
+        Outcome::Frame(frame) => with_number(DONE, FRAME, u64::from(frame)),
+        Outcome::Done => with_number(DONE, OK, 0),
+        Outcome::Text(..) => with_number(DONE, TEXT, 0),
+        Outcome::Stat(..) => with_number(DONE, TEXT, 0),
+        Outcome::Free => with_number(DONE, FREE, 0),
+        Outcome::Lent(cpu) => with_number(DONE, CPU, u64::from(cpu)),
+        Outcome::Charged(group) => with_number(DONE, CHARGED, u64::from(group.number())),
+        Outcome::Marked => with_number(DONE, MARKED, 0),
+        Outcome::Active => with_number(DONE, ACTIVE, 0),
+        Outcome::Left(left) => with_number(DONE, LEFT, left),
+        Outcome::Returned => with_number(DONE, RETURNED, 0),
+        Outcome::OverLimit(group) => with_number(OVER_LIMIT, REFUSED, u64::from(group.number())),
+        Outcome::Refused(fault) => with_number(fault.number() as u8, REFUSED, 0),
     }
 }

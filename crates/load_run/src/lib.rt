@@ -32,4 +32,4 @@ pub use load_options::task::{Options, Task};
 pub use script_lines::fault::ScriptFault;
 pub use script_lines::line::Line;
 pub use script_lines::script::parse_script;
-pub use script_replay::{Form, replay_by_visits, run_lines};
+pub use script_replay::{Form, Gate, NoGate, replay_by_visits, run_lines};

@@ -182,7 +182,7 @@ pub kept_below : (t : KnownTable) (m : KnownMachine) → IsConsistent t m → Ar
 unfolding usage_charged pages_of
 kept_below t m ok legal only_dirty g =
     rows_few (pages_shared m Inactive only_dirty g) (pages_shared m Active only_dirty g) (λ (a : Account). cond (in_subtree m.ledger.groups g a.group) a.pages 0)
-    m.ledger.groups m.ledger.accounts legal.numbers legal.groups.numbers
+    m.ledger.groups m.ledger.accounts legal.numbers (λ k d lt. let low = legal.groups.numbers k d lt in let few = legal.groups.room in omega arith)
     (λ k d lt low.
     let a : Account = get_or m.ledger.accounts k d in
     let own : pages_of m.ledger a.group ≡ a.pages =

@@ -18,11 +18,11 @@ use Rattle.mem_machine.proofs.StocksKept.{filled_stock, has_stock_step, stock_ke
 use Rattle.mem_reclaim.specs.Staying.{Keeps}
 use Rattle.mem_alloc.specs.declared.faults.AllocFault.{AllocFault}
 use Rattle.mem_alloc.specs.declared.faults.AllocFault.TheVariants.{Over, NoFrames, RequesterKilled}
-use Rattle.mem_alloc.specs.{IsRefusedAt, IsRefusedFor, MakesRoom, ChargesAfterDrain, ChargesNoBatch, ChargesOne, DrainsStock, FillsBatch}
+use Rattle.mem_alloc.specs.{IsRefusedAt, IsRefusedFor, ChargesAfterDrain, ChargesNoBatch, ChargesOne, DrainsStock, FillsBatch}
 use Rattle.mem_alloc.specs.{FillsDrainedStock, FillsStock, LacksBatch, PaysForFrame, FailsInRounds, AllocatesFrame, FillsList, HasNoFreeFrame}
 use Rattle.mem_alloc.specs.{LendsBatch, LendsNoFrame, RefillsInRounds, RefillsList}
 use Rattle.mem_alloc.proofs.Making.{answer_is}
-use Rattle.mem_alloc.proofs.Lowering.{Lowers, lowers_none, lowers_both, run_lowers}
+use Rattle.mem_alloc.proofs.Lowering.{Lowers, lowers_both, run_lowers}
 use Rattle.mem_alloc.proofs.Killing.{relieves_lower}
 use Rattle.mem_alloc.proofs.Rounding.{FailureSpares, InTheEnd, spares_same, noted_fails_spare, noted_in_the_end}
 use Rattle.mem_machine.proofs.Followed.{makes_both, makes_none}
@@ -57,12 +57,6 @@ pub refused_lowers : (t : KnownTable) (g pages over : ℕ) (answer : Result (Uni
 refused_lowers t g pages over answer m n steps r =
     let x = with_run m r.seen in
     lowers_both t m x n (run_lowers t m r.seen) (relieves_lower t g over pages x n r.relieving r.relieves)
-
-pub makes_lower : (t : KnownTable) (g pages : ℕ) (before : List ℕ) (m n : KnownMachine) (steps : Run) → MakesRoom g before pages (transition t m steps n) → Lowers t m n
-makes_lower t g pages [] m n steps h = subst (λ (x : KnownMachine). Lowers t m x) (sym h.machine) (lowers_none t m)
-makes_lower t g pages (over ∷ later) m n steps h =
-    lowers_both t m h.between n (refused_lowers t g pages over (Ok tt) m h.between h.earlier h.first)
-    (makes_lower t g pages later h.between n h.later h.second)
 
 refusal_keeps : (t : KnownTable) (g pages : ℕ) (cause : AllocFault) (m n : KnownMachine) (c d : KnownCpuLists) (steps : Run)
     → IsRefusedFor g pages cause (transition t (visit_state m c) steps (visit_state n d)) → KeepsPart c d

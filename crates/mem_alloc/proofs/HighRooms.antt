@@ -22,7 +22,7 @@ use Rattle.mem_machine.specs.{KnownMachine, home_of, with_note, with_run, Makes,
 use Rattle.mem_machine.proofs.Followed.{makes_both, makes_none}
 use Rattle.mem_machine.proofs.Made.{visit_same}
 use Rattle.mem_reclaim.specs.{FreesBySteps, has_kill, ReclaimsRounds, max_rounds, pages_wanted, IsDirtyUnit, Keeps, MissedAll}
-use Rattle.mem_reclaim.proofs.Grown.{hold_after, misses_after, parts_after}
+use Rattle.mem_reclaim.proofs.Grown.{misses_after, parts_after}
 use Rattle.mem_reclaim.proofs.Keeping.{keeps_none, keeps_both}
 use Rattle.mem_alloc.specs.High.{KeepToHigh, KeepsToHigh, PathHasHighRoom, ReclaimsHigh, has_high_room, high_of, with_high_noted_at}
 use Rattle.mem_alloc.proofs.Calm.{no_kill_both}
@@ -51,7 +51,6 @@ module _ (t : KnownTable) (g high need : ℕ) (m y x : KnownMachine) (told : y �
         killed = ap (λ (k : KnownMachine). k.killed) high_noted;
         groups = ap (λ (k : KnownMachine). k.ledger.groups) high_noted;
         settings = ap (λ (k : KnownMachine). k.ledger.settings) high_noted;
-        hold = hold_after t m first x high_runs held refl;
         usage = λ h.
             let e : current_of x.ledger h ≡ current_of m.ledger h =
             ap (λ (k : KnownMachine). current_of k.ledger h) high_noted ∙ usage-noted event.High m.ledger.groups m.ledger.accounts g h in

@@ -14,20 +14,24 @@ use Rattle.mem_reclaim.specs.{MissedAll}
 use Rattle.mem_alloc.specs.KillBreaches.{Situation, HasRuns, IsTooEarly, call_in, full_with_min}
 
 -- memory.min doesn't keep /a/b if nothing protects it
-not_kept : (mins : List ℕ) → effective min_key (full_with_min mins) 1 2 ≡ 0 → ¬ IsKeptByMin (full_with_min mins) (full_with_min mins) 1 2
-not_kept mins none kept =
-    let same = effective-same min_key kept.turn (full_with_min mins) 1 (sym kept.groups) (sym kept.settings)
+not_kept : (mins : List ℕ) (limited : ℕ) → effective min_key (full_with_min mins) limited 2 ≡ 0 → ¬ IsKeptByMin (full_with_min mins) (full_with_min mins) limited 2
+not_kept mins limited none kept =
+    let same = effective-same min_key kept.turn (full_with_min mins) limited (sym kept.groups) (sym kept.settings)
     (λ other. let x = kept.since other in let y = kept.until other in omega (arith, x, y)) 2 in
     let some = kept.some in
     omega (arith, same, some, none)
 
 pub unset : ¬ IsKeptByMin (full_with_min []) (full_with_min []) 1 2
 unfolding effective parent_of parent_path number_at usage_charged in_subtree path_of group_at names_of
-unset = not_kept [] refl
+unset = not_kept [] 1 refl
 
 pub stranger : ¬ IsKeptByMin (full_with_min (0 ∷ 0 ∷ 0 ∷ 0 ∷ 3 ∷ [])) (full_with_min (0 ∷ 0 ∷ 0 ∷ 0 ∷ 3 ∷ [])) 1 2
 unfolding effective parent_of parent_path number_at usage_charged in_subtree path_of group_at names_of
-stranger = not_kept (0 ∷ 0 ∷ 0 ∷ 0 ∷ 3 ∷ []) refl
+stranger = not_kept (0 ∷ 0 ∷ 0 ∷ 0 ∷ 3 ∷ []) 1 refl
+
+pub unset_below_root : ¬ IsKeptByMin (full_with_min []) (full_with_min []) 0 2
+unfolding effective parent_of parent_path number_at usage_charged in_subtree path_of group_at names_of
+unset_below_root = not_kept [] 0 refl
 
 -- frame 0 of /a/b is clean, no freeze of it missed in the call, and memory.min doesn't keep it
 module _ (s : Situation) (below : in_subtree s.ledger.groups 1 2 ≡ true) (kept : home_of s.links 0 ≡ Some (record { owner = 2; list = Inactive }))

@@ -4,13 +4,14 @@ use Rattle.std.proofs.Common.{subst, inl, inr, arith, cond, length}
 use Rattle.std.specs.Prelude.{set, slice_index_or, slice_set}
 use Rattle.std.proofs.lemmas.Bool.{and_parts, cases_Bool, cases_lt, false≢true, not-true}
 use Rattle.std.proofs.lemmas.List.{append_assoc, append-nil, get_or-set_same, length-set}
+use Rattle.group_tree.specs.Bounds.{most_groups}
 use Rattle.group_tree.specs.declared.group.Group.{Group}
 use Rattle.group_tree.specs.Groups.{has_group, in_subtree}
 use Rattle.group_tree.specs.declared.event.EventKey.TheVariants.{Oom}
 use Rattle.group_charge.specs.declared.account.Account as charge
 use Rattle.group_charge.specs.Charges.{AreCharges, current_of, usage_charged, with_event_at, with_oom_noted}
 use Rattle.group_charge.proofs.CallerLemmas.{sum-map_same}
-use Rattle.group_charge.proofs.KeptLemmas.{number_below}
+use Rattle.group_tree.proofs.CallerLemmas.{number_below}
 use Rattle.group_charge.proofs.SumLemmas.{share}
 use Rattle.boot_words.specs.Pasts.{IsHeld}
 use Rattle.step_rules.specs.{sum_to, Run}
@@ -116,7 +117,7 @@ abbrev pub alive_at : List Bool → ℕ → ℕ
 alive_at marks g = cond (is_killed marks g) 0 1
 
 abbrev pub count_alive : KnownMachine → ℕ
-count_alive m = sum_to 64 (alive_at m.killed)
+count_alive m = sum_to most_groups (alive_at m.killed)
 
 alive_less : (marks later : List Bool) (v : ℕ) → is_killed later v ≡ true → is_killed marks v ≡ false → alive_at later v < alive_at marks v
 alive_less marks later v dead alive =
@@ -130,7 +131,7 @@ alive_falls false true stays = omega arith
 alive_falls true false stays = absurd (false≢true (stays refl))
 alive_falls true true stays = omega arith
 
-pub victim_below : (m : KnownMachine) → AreCharges m.ledger → (g v : ℕ) → IsVictim m g (Some v) → v < 64
+pub victim_below : (m : KnownMachine) → AreCharges m.ledger → (g v : ℕ) → IsVictim m g (Some v) → v < most_groups
 victim_below m charges g v most = number_below m.ledger.groups v charges.groups (chosen_there m g v most.chosen)
 
 -- each of these is marked
@@ -157,8 +158,8 @@ fewer_alive t m n g killed whole charges most head marked =
     let alive : is_killed m.killed v ≡ false = not-true (is_killed m.killed v) (and_parts (in_subtree m.ledger.groups g v) _ most.chosen).1 in
     let dies = victims_die m g killed (record { groups = charges.groups; chosen = most; killed_root_is = head }) in
     let dead : is_killed now v ≡ true = all_marked groups m.killed v dies.0 inside dies.1 dies.2 in
-    subst (λ (k : List Bool). sum_to 64 (alive_at k) < count_alive m) (sym marked)
-    (sum_less 64 (alive_at now) (alive_at m.killed) v low
+    subst (λ (k : List Bool). sum_to most_groups (alive_at k) < count_alive m) (sym marked)
+    (sum_less most_groups (alive_at now) (alive_at m.killed) v low
     (λ j. alive_falls (is_killed m.killed j) (is_killed now j) (all_stay_marked groups m.killed j)) (alive_less m.killed now v dead alive))
 
 -- kills, and one more

@@ -4,6 +4,7 @@ use Rattle.std.proofs.Common.{subst, inl, inr, arith, cond, eq-eqb}
 use Rattle.std.specs.List.{sum_by}
 use Rattle.std.proofs.lemmas.Bool.{cases_eq, cases_lt, ne_eqb, cond-true, cond-false, false≢true}
 use Rattle.std.proofs.lemmas.List.Sums.{sum_by-cons}
+use Rattle.group_tree.specs.Bounds.{most_groups}
 use Rattle.group_tree.specs.declared.group.Group.{Group}
 use Rattle.group_tree.specs.{has_group, in_subtree, limit_of, fits_limit, PathHasRoom}
 use Rattle.group_charge.specs.declared.account.Account as charge
@@ -113,15 +114,15 @@ room_falls o a b pages was now low = elim (cases_lt b a) [
 
 -- the sum of the usages of all groups
 abbrev pub all_usages : KnownMachine → ℕ
-all_usages m = sum_to 64 (current_of m.ledger)
+all_usages m = sum_to most_groups (current_of m.ledger)
 
-pub usages_fall : (t : KnownTable) (m n : KnownMachine) (over pages : ℕ) → Lowers t m n → over < 64 → has_room_at m.ledger over pages ≡ false → has_room_at n.ledger over pages ≡ true
+pub usages_fall : (t : KnownTable) (m n : KnownMachine) (over pages : ℕ) → Lowers t m n → over < most_groups → has_room_at m.ledger over pages ≡ false → has_room_at n.ledger over pages ≡ true
     → all_usages n < all_usages m
 usages_fall t m n over pages l inside was now =
     let limit : limit_of n.ledger.groups over ≡ limit_of m.ledger.groups over = ap (λ (x : List Group). limit_of x over) l.groups in
     let less = room_falls (limit_of m.ledger.groups over) (current_of m.ledger over) (current_of n.ledger over) pages was
     (ap (λ (o : Option ℕ). fits_limit o (current_of n.ledger over + pages)) (sym limit) ∙ now) (l.falls over) in
-    sum_less 64 (current_of n.ledger) (current_of m.ledger) over inside l.falls less
+    sum_less most_groups (current_of n.ledger) (current_of m.ledger) over inside l.falls less
 
 -- ---- a charge that is uncharged again leaves the usages as before
 

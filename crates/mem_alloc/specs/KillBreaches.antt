@@ -17,14 +17,16 @@ use Rattle.step_rules.specs.declared.step.Answer.TheVariants.{Done, Held, Missed
 use Rattle.step_rules.specs.State.{PartStock}
 use Rattle.step_rules.specs.After.{Run, cpu_makes, zone_makes}
 use Rattle.boot_words.specs.Tables.{KnownTable}
+use Rattle.cpu_part.specs.Cpus.{KnownCpuLists}
 use Rattle.mem_machine.specs.declared.frame_state.FrameState.{FrameState}
 use Rattle.mem_machine.specs.declared.frame_state.FrameState.TheVariants.{Free, Head, Tail}
-use Rattle.mem_machine.specs.{HeadsKeptUnit, IsConsistent, KnownMachine, home_of, kill_steps, lock_holder, local_of, note_oom_steps, part_at, Transition, transition}
+use Rattle.mem_machine.specs.{HeadsKeptUnit, IsConsistent, KnownMachine, home_of, kill_steps, lock_holder, local_of, note_oom_steps, part_at, Stays, Transition, transition, visit_state}
 use Rattle.mem_machine.specs.Local.{IsLocalRun}
 use Rattle.mem_reclaim.specs.declared.sets.Killed.{Killed}
 use Rattle.mem_reclaim.specs.{CountsMisses, kill_set, missed_in, misses_of}
 use Rattle.mem_alloc.specs.Laws.{WasLast}
 use Rattle.mem_alloc.specs.NoRash.{IsChargedBelow, MayKill, NoRashKill}
+use Rattle.mem_alloc.specs.Rounds.{MakesRound}
 
 -- ---- a call before a kill
 -- what matters of a call for the kill after it: the table's choice, the machine before and after, and the steps
@@ -72,7 +74,7 @@ IsTooEarly s killed = IsNever (λ call. MayKill asks_a_page call killed) s
 -- the root, /a with a limit, /a/b, /a/c and /d; memory.oom.group of /a and of /a/b
 abbrev pub tree : (limit : ℕ) (of_a of_b : Bool) → List Group
 tree limit of_a of_b =
-    the_root ∷ record (new_row 1 (codes "/a")) { limit = Some limit; oom_group = of_a }
+    the_root 4 ∷ record (new_row 1 (codes "/a")) { limit = Some limit; oom_group = of_a }
     ∷ record (new_row 2 (codes "/a/b")) { oom_group = of_b } ∷ new_row 3 (codes "/a/c") ∷ new_row 4 (codes "/d") ∷ []
 
 -- the account of a group with this many pages of its own
@@ -202,6 +204,12 @@ with_flags of_b = record tried {
 -- no freeze of frame 0 missed
 abbrev pub untried : Situation
 untried = record tried { misses = 0; steps = note_oom_steps 1 }
+
+-- the call is a round that freed no page, though one was wanted; nothing followed it
+abbrev pub IsIdleRound : Transition KnownMachine → Type 0
+IsIdleRound call =
+    (cpu : KnownCpuLists)
+    × MakesRound 1 1 0 Stays (transition call.table (visit_state call.before cpu) call.steps (visit_state call.after cpu))
 
 -- one missed before the call
 abbrev pub tried_before : Situation

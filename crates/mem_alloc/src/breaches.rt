@@ -9,7 +9,7 @@ ghost use Rattle.mem_alloc.specs.Laws.{TriedAll};
 ghost use Rattle.mem_alloc.specs.KillBreaches.{MayKillIfAllIsTried, IsTooEarly, of_b, not_allowed, with_room, counted_twice};
 ghost use Rattle.mem_alloc.specs.KillBreaches.{not_noted, noted_below, not_drained, killed_before, forgotten_kills};
 ghost use Rattle.mem_alloc.specs.KillBreaches.{with_flags, tried, untried, tried_before, miscounted, made_dirty, given_away};
-ghost use Rattle.mem_alloc.specs.KillBreaches.{min_written, min_of_a_stranger, UnitsAreTriedAsFound, IsNever, freed_dirty};
+ghost use Rattle.mem_alloc.specs.KillBreaches.{min_written, min_of_a_stranger, UnitsAreTriedAsFound, IsIdleRound, IsNever, freed_dirty};
 ghost use Rattle.mem_alloc.specs.KillBreaches.{MayNotAsk, IsRash, TheseMayDie, NobodyMayDie, kill_after_others};
 ghost use Rattle.mem_alloc.specs.KillBreaches.{beside_a_greater, killed_for_a, raised, kills_of};
 
@@ -68,12 +68,13 @@ pub fn a_charge_may_ask_for_no_more_than_its_pages()
 {}
 
 /// A charge isn't refused as one that tried all if the limit has room, a stock isn't drained or a clean unit wasn't
-/// tried. Nor is memory.high left exceeded before that.
+/// tried. Nor is memory.high left exceeded before that, nor does a round end without a page.
 pub fn a_refusal_before_all_was_tried_is_too_early()
     ensures with_room { IsNever (TriedAll 1 1) with_room }
     ensures not_drained { IsNever (TriedAll 1 1) not_drained }
     ensures untried { IsNever (TriedAll 1 1) untried }
     ensures high { IsNever (ReclaimsToHigh 1 1 2) untried }
+    ensures round { IsNever IsIdleRound untried }
 {}
 
 /// No reclaim frees a dirty unit.

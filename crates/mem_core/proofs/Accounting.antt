@@ -4,7 +4,7 @@ use Rattle.std.specs.Prelude.{◌⊎◌}
 use Rattle.std.proofs.lemmas.Bool.{cases_eq, cond-true, eqb-true, true≢false}
 use Rattle.group_tree.specs.declared.event.EventKey.{EventKey}
 use Rattle.group_tree.specs.declared.group.Group.{Group}
-use Rattle.group_tree.specs.{EventCounts, is_same_key, no_events, count_of, with_one_more, one_more, has_group, in_subtree, initial_groups}
+use Rattle.group_tree.specs.{EventCounts, is_same_key, no_events, count_of, with_one_more, one_more, has_group, in_subtree}
 use Rattle.group_tree.specs.{without_group, is_in_subtree}
 use Rattle.group_tree.proofs.EventLemmas.{counted, none_counted}
 use Rattle.group_tree.proofs.GroupLemmas.{has_group-any}
@@ -16,7 +16,7 @@ use Rattle.step_rules.specs.declared.step.Answer.{Answer}
 use Rattle.step_rules.specs.declared.step.Answer.TheVariants.{Illegal, Done, Number}
 use Rattle.step_rules.specs.{Zone, Allows, is_of_group, Run, after, state_of, IsLegalRun, pushed, IsPeak, peak_follows, event_of}
 use Rattle.step_rules.specs.{group_noted, noted_at, is_noted_in_subtree, is_noted_at, makes_group, count_after, events_in, events_local_in}
-use Rattle.step_rules.specs.State.{State}
+use Rattle.step_rules.specs.State.{State, boot_groups}
 use Rattle.step_rules.proofs.Moving.{gone_itself}
 use Rattle.step_rules.proofs.Peaking.{peaks_are_kept}
 use Rattle.step_rules.proofs.Noting.{events_are_counted}
@@ -161,8 +161,8 @@ tell_more zone run step answer old new legal ok told follow =
           ∙ sym law;
     }
 
-root_alone : (m : ℕ) → has_group initial_groups m ≡ true → 0 ≡ m
-root_alone m there = eqb-true 0 m (or_none (0 == m) (sym (has_group-any initial_groups m) ∙ there))
+root_alone : (m : ℕ) → has_group boot_groups m ≡ true → 0 ≡ m
+root_alone m there = eqb-true 0 m (or_none (0 == m) (sym (has_group-any boot_groups m) ∙ there))
   where
     or_none : (b : Bool) → (b || false) ≡ true → b ≡ true
     or_none true e = refl

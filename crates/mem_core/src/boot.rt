@@ -63,7 +63,7 @@ impl Rows {
         let killed = new_flags(alloc)?;
         let pending = new_counts(alloc)?;
         let phases = PhaseTable::new(alloc, frames)?;
-        let tree = Tree::new(alloc)?;
+        let tree = Tree::new(alloc, MAX_GROUPS as u32 - 1)?;
         let seats = new_seats(alloc, frames, cpus)?;
         Ok(Rows {
             frames,

@@ -153,6 +153,7 @@ fn make_answer(rows: &Rows, path: &PathText, seat: u32) -> Answer
     requires legal { is_legal (state_in rows.now) seat (Action.Make path.now) ≡ true }
     ensures { Allows (state_in rows.now) seat (Action.Make path.now) result }
 {
+    let _groups = rows.tree.groups(); // Called for its contract: they are those of a tree.
     Answer::Number(least_free(&rows.tree))
 }
 

@@ -4,6 +4,7 @@ use Rattle.std.proofs.Common.{◌≡◌, ℕ, ◌+◌, ◌-◌, ◌<◌, ◌≤�
 use Rattle.std.specs.Prelude.{slice_set}
 use Rattle.std.proofs.lemmas.Bool.{cases_eq, ne_eqb, cond-true, cond-false}
 use Rattle.std.proofs.lemmas.List.{get_or-set_same, get_or-set_other, length-set}
+use Rattle.group_tree.specs.Bounds.{most_groups}
 use Rattle.step_rules.specs.State.{Part, sum_to, with_at}
 use Rattle.step_rules.proofs.Basics.{at_through}
 use Rattle.step_rules.proofs.Sums.{sum_change, sum_part}
@@ -55,7 +56,7 @@ pub sums_same : (cpus : ℕ) (a b : ℕ → Part) (sums : List ℕ) → AreBooke
 sums_same cpus a b sums are same = record { size = are.size; each = λ h fits. are.each h fits ∙ sym (same h) }
 
 -- the sum of one group changes
-sums_else : (cpus : ℕ) (a b : ℕ → Part) (sums : List ℕ) (g x : ℕ) → AreBooked cpus a sums → g < 64 → x ≡ pages_booked cpus b g
+sums_else : (cpus : ℕ) (a b : ℕ → Part) (sums : List ℕ) (g x : ℕ) → AreBooked cpus a sums → g < most_groups → x ≡ pages_booked cpus b g
     → ((h : ℕ) → (h ≡ g → ⊥) → pages_booked cpus b h ≡ pages_booked cpus a h) → AreBooked cpus b (slice_set sums g x)
 sums_else cpus a b sums g x are inside here others = record {
   size = length-set sums g x ∙ are.size;
@@ -96,7 +97,7 @@ module _ (cpus : ℕ) (parts : ℕ → Part) (q : ℕ) (inside : q ≤ cpus) whe
         let split = cond_split (h == g) new.book k (parts q).book less in
         omega (arith, move, a, b, split)
 
-    pub sums_less : (sums : List ℕ) → AreBooked cpus parts sums → g < 64 → AreBooked cpus (with_at parts q new) (slice_set sums g (get_or sums g 0 - k))
+    pub sums_less : (sums : List ℕ) → AreBooked cpus parts sums → g < most_groups → AreBooked cpus (with_at parts q new) (slice_set sums g (get_or sums g 0 - k))
     sums_less sums are fits = sums_else cpus parts (with_at parts q new) sums g (get_or sums g 0 - k) are fits
         (let a = are.each g fits in let b = books_less g in let z : cond (g == g) k 0 ≡ k = cond-true (g == g) k 0 (eq-eqb g g refl) in omega (arith, a, b, z))
         (λ h ne. let b = books_less h in let z : cond (h == g) k 0 ≡ 0 = cond-false (h == g) k 0 (ne_eqb h g ne) in omega (arith, b, z))
@@ -111,7 +112,7 @@ module _ (cpus : ℕ) (parts : ℕ → Part) (q : ℕ) (inside : q ≤ cpus) whe
         let same = ap (λ (x : ℕ). cond (h == g) x 0) more in
         omega (arith, move, a, b, same)
 
-    pub sums_more : (sums : List ℕ) → AreBooked cpus parts sums → g < 64 → AreBooked cpus (with_at parts q new) (slice_set sums g (get_or sums g 0 + k))
+    pub sums_more : (sums : List ℕ) → AreBooked cpus parts sums → g < most_groups → AreBooked cpus (with_at parts q new) (slice_set sums g (get_or sums g 0 + k))
     sums_more sums are fits = sums_else cpus parts (with_at parts q new) sums g (get_or sums g 0 + k) are fits
         (let a = are.each g fits in let b = books_more g in let z : cond (g == g) k 0 ≡ k = cond-true (g == g) k 0 (eq-eqb g g refl) in omega (arith, a, b, z))
         (λ h ne. let b = books_more h in let z : cond (h == g) k 0 ≡ 0 = cond-false (h == g) k 0 (ne_eqb h g ne) in omega (arith, b, z))

@@ -6,6 +6,7 @@ use Rattle.std.proofs.lemmas.Bool.{cases_eq, ne_eqb, cond-true, cond-false}
 use Rattle.std.proofs.lemmas.Option.{none-some}
 use Rattle.std.proofs.lemmas.Nat.{pow_pos}
 use Rattle.std.proofs.lemmas.List.{get_or-set_same, get_or-set_other, length-replicate, length-set}
+use Rattle.group_tree.specs.Bounds.{most_groups}
 use Rattle.lru_lists.specs.declared.record.Link.{Link}
 use Rattle.lru_lists.specs.declared.record.Home.{Home}
 use Rattle.lru_lists.specs.{link_at, nowhere, owner_of, AreNowhere, SameOwners, SameUse}
@@ -80,10 +81,10 @@ clean_few states links units g = sum_few (length states) 1024 (counted states li
 
 -- ---- the counts
 
-pub clean_first : (states : List FrameState) (links : List Link) → AreNowhere links → AreCleanCounts states links (replicate 64 0)
+pub clean_first : (states : List FrameState) (links : List Link) → AreNowhere links → AreCleanCounts states links (replicate most_groups 0)
 clean_first states links none = record {
-  size = length-replicate {A = ℕ} 64 0;
-  each = λ g low. repeated 64 g 0 ∙ sym (sum_none (length states) (counted states links g)
+  size = length-replicate {A = ℕ} most_groups 0;
+  each = λ g low. repeated most_groups g 0 ∙ sym (sum_none (length states) (counted states links g)
       (λ f inside. away_counts states links g f (ap (λ (l : Link). l.home) (none f))));
 }
 
@@ -137,7 +138,7 @@ module _ (states : List FrameState) (before after : List Link) (f : ℕ) (unit :
 
 -- a clean unit is in the count of its group
 pub clean_has : (states : List FrameState) (links : List Link) (f : ℕ) (unit : ChargedUnit) → f < length states → frame_state_at states f ≡ Head unit
-    → (counts : List ℕ) → AreCleanCounts states links counts → unit.group < 64 → clean_owner (link_at links f) ≡ Some unit.group
+    → (counts : List ℕ) → AreCleanCounts states links counts → unit.group < most_groups → clean_owner (link_at links f) ≡ Some unit.group
     → 2 ^ unit.order ≤ get_or counts unit.group 0
 clean_has states links f unit inside heads counts are low was =
     let a = sum_part (length states) (counted states links unit.group) f inside in
@@ -148,7 +149,7 @@ clean_has states links f unit inside heads counts are low was =
 
 -- a unit joined or left, or became clean or dirty
 module _ (states : List FrameState) (before after : List Link) (f : ℕ) (unit : ChargedUnit) (used : SameUse before after f) (inside : f < length states)
-    (heads : frame_state_at states f ≡ Head unit) (counts : List ℕ) (are : AreCleanCounts states before counts) (low : unit.group < 64) where
+    (heads : frame_state_at states f ≡ Head unit) (counts : List ℕ) (are : AreCleanCounts states before counts) (low : unit.group < most_groups) where
   pub clean_more : clean_owner (link_at before f) ≡ None → clean_owner (link_at after f) ≡ Some unit.group → AreCleanCounts states after (clean_joined unit.group unit.order counts)
   clean_more was now = record {
     size = length-set counts unit.group (get_or counts unit.group 0 + 2 ^ unit.order) ∙ are.size;
@@ -209,11 +210,11 @@ pub away_clean : (links : List Link) (f : ℕ) → home_of links f ≡ None → 
 away_clean links f none = no_owner (link_at links f).is_dirty (owner_of (link_at links f).home) (away_owner (link_at links f).home none)
 
 -- the group of a unit on a list is the owner of the list
-pub listed_owner : (h : Option Home) (s : FrameState) (unit : ChargedUnit) → h ≢ None → FitsFrameState h s → s ≡ Head unit → (unit.group < 64) × (owner_of h ≡ Some unit.group)
+pub listed_owner : (h : Option Home) (s : FrameState) (unit : ChargedUnit) → h ≢ None → FitsFrameState h s → s ≡ Head unit → (unit.group < most_groups) × (owner_of h ≡ Some unit.group)
 listed_owner None s unit kept fits heads = absurd (kept refl)
 listed_owner (Some home) s unit kept fits heads =
     let same : Some unit.group ≡ Some home.owner = ap head_group_of (sym heads) ∙ fits.1 in
-    (subst (λ (o : Option ℕ). IfSome o (λ g. g < 64)) (sym same) fits.0, sym same)
+    (subst (λ (o : Option ℕ). IfSome o (λ g. g < most_groups)) (sym same) fits.0, sym same)
 
 -- a unit left its list
 pub clean_gone : (states : List FrameState) (before after : List Link) (f : ℕ) (unit : ChargedUnit) → SameUse before after f → f < length states
@@ -240,7 +241,7 @@ clean_there states links f unit inside heads counts are kept fits dirty =
 
 -- a unit joined its list
 pub clean_kept : (states : List FrameState) (before after : List Link) (f : ℕ) (unit : ChargedUnit) → SameUse before after f → f < length states
-    → frame_state_at states f ≡ Head unit → (counts : List ℕ) → AreCleanCounts states before counts → unit.group < 64 → home_of before f ≡ None
+    → frame_state_at states f ≡ Head unit → (counts : List ℕ) → AreCleanCounts states before counts → unit.group < most_groups → home_of before f ≡ None
     → owner_of (home_of after f) ≡ Some unit.group → (link_at after f).is_dirty ≡ false
     → AreCleanCounts states after (clean_joined unit.group unit.order counts)
 clean_kept states before after f unit used inside heads counts are low away owner clean =
@@ -255,7 +256,7 @@ pub clean_marked : (states : List FrameState) (before after : List Link) (f : �
     → AreCleanCounts states after (clean_dirtied was now unit.group unit.order counts)
 clean_marked states before after f unit used inside heads counts are kept fits home was now was_is now_is = by was now was_is now_is
   where
-    owner : (unit.group < 64) × (owner_of (home_of before f) ≡ Some unit.group)
+    owner : (unit.group < most_groups) × (owner_of (home_of before f) ≡ Some unit.group)
     owner = listed_owner (home_of before f) (frame_state_at states f) unit kept fits heads
 
     same : (d : Bool) → (link_at before f).is_dirty ≡ d → (link_at after f).is_dirty ≡ d → clean_owner (link_at after f) ≡ clean_owner (link_at before f)
@@ -306,14 +307,9 @@ pub fits_here : (t : KnownTable) (m : KnownMachine) → IsConsistent t m → (f 
     → FitsFrameState (home_of m.links f) (frame_state_at m.frame_states f)
 fits_here t m ok f inside = ok.frame_states f (let s = ok.sizes.frame_states in omega (arith, s, inside))
 
--- a frame that heads no unit is on no list
-pub away_unheaded : (t : KnownTable) (m : KnownMachine) → IsConsistent t m → (f : ℕ) → f < t.frames
-    → head_group_of (frame_state_at m.frame_states f) ≡ None → home_of m.links f ≡ None
-away_unheaded t m ok f inside none = head_away (home_of m.links f) (frame_state_at m.frame_states f) (ok.frame_states f inside) none
-
 -- no count is above 1,024 pages for each frame
 pub clean_room : (t : KnownTable) (m : KnownMachine) → IsConsistent t m → (counts : List ℕ) → AreCleanCounts m.frame_states m.links counts
-    → (g : ℕ) → g < 64 → get_or counts g 0 ≤ length m.links * 1024
+    → (g : ℕ) → g < most_groups → get_or counts g 0 ≤ length m.links * 1024
 clean_room t m ok counts are g low =
     let a = are.each g low in
     let b = clean_few m.frame_states m.links ok.units g in
@@ -367,7 +363,7 @@ clean_there_here t m now same ok f i inside is kept unit heads counts are clean 
 
 -- a frame became a unit of its own, and joined its group's list
 pub clean_kept_here : (states : List FrameState) (links after : List Link) (f : ℕ) (unit : ChargedUnit) (counts : List ℕ) → f < length states
-    → SameUse links after f → (link_at after f).is_dirty ≡ false → home_of links f ≡ None → owner_of (home_of after f) ≡ Some unit.group → unit.group < 64
+    → SameUse links after f → (link_at after f).is_dirty ≡ false → home_of links f ≡ None → owner_of (home_of after f) ≡ Some unit.group → unit.group < most_groups
     → AreCleanCounts states links counts → AreCleanCounts (slice_set states f (Head unit)) after (clean_joined unit.group unit.order counts)
 clean_kept_here states links after f unit counts inside used clean away owner low are =
     clean_kept (slice_set states f (Head unit)) links after f unit used (let s = length-set states f (Head unit) in omega (arith, s, inside))
@@ -376,7 +372,7 @@ clean_kept_here states links after f unit counts inside used clean away owner lo
 -- a block became a unit, and joined its group's list
 pub clean_placed : (t : KnownTable) (n : KnownMachine) → IsConsistent t n → (states : List FrameState) (links : List Link) (lists : List Lru) (group : ℕ) (block : Block)
     (counts : List ℕ) → block.at < length states → PlacesUnit group block states n.frame_states → JoinsList group block.at (group_lists links lists) (lists_of n)
-    → SameUse links n.links block.at → (link_at n.links block.at).is_dirty ≡ false → home_of links block.at ≡ None → group < 64
+    → SameUse links n.links block.at → (link_at n.links block.at).is_dirty ≡ false → home_of links block.at ≡ None → group < most_groups
     → AreCleanCounts states links counts → AreCleanCounts n.frame_states n.links (clean_joined group block.order counts)
 clean_placed t n ok states links lists group block counts inside places joins used clean away low are =
     clean_kept n.frame_states links n.links block.at (record { group = group; order = block.order }) used (let s = places.frames in omega (arith, s, inside))
@@ -418,7 +414,7 @@ clean_marked_here t m now same ok f i inside at kept unit heads counts are links
 
 -- the group of a kept unit has a number, as the calls see it
 pub listed_group : (t : KnownTable) (m now : KnownMachine) → m ≡ now → IsConsistent t m → (f i : ℕ) → f < t.frames → i ≡ f → home_of now.links f ≢ None
-    → (unit : ChargedUnit) → frame_state_at m.frame_states i ≡ Head unit → unit.group < 64
+    → (unit : ChargedUnit) → frame_state_at m.frame_states i ≡ Head unit → unit.group < most_groups
 listed_group t m now same ok f i inside at kept unit heads =
     (listed_owner (home_of m.links f) (frame_state_at m.frame_states f) unit (subst (λ (x : KnownMachine). home_of x.links f ≢ None) (sym same) kept) (ok.frame_states f inside)
     (subst (λ (k : ℕ). frame_state_at m.frame_states k ≡ Head unit) at heads)).0

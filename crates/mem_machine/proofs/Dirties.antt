@@ -3,6 +3,7 @@ use Rattle.std.proofs.Common.{◌≡◌, ◌≢◌, ℕ, ◌<◌, Bool, Option, 
 use Rattle.std.specs.Prelude.{slice_set, option_map, IfSome}
 use Rattle.std.proofs.lemmas.List.{get_or_default, set-get_or}
 use Rattle.std.proofs.lemmas.Option.{none-some}
+use Rattle.group_tree.specs.Bounds.{most_groups}
 use Rattle.lru_lists.specs.declared.record.Link.{Link}
 use Rattle.lru_lists.specs.declared.record.Home.{Home}
 use Rattle.lru_lists.specs.declared.record.LruList.{LruList}
@@ -17,8 +18,8 @@ use Rattle.mem_machine.proofs.Followed.{makes_stay}
 
 -- a home that is there is of a group number
 pub owner_bound : (t : KnownTable) (m : KnownMachine) → IsConsistent t m → (f : ℕ) (h : Home) → f < t.frames
-    → home_of m.links f ≡ Some h → h.owner < 64
-owner_bound t m ok f h inside is = (subst (λ (x : Option Home). IfSome x (λ y. (y.owner < 64) × (head_group_of
+    → home_of m.links f ≡ Some h → h.owner < most_groups
+owner_bound t m ok f h inside is = (subst (λ (x : Option Home). IfSome x (λ y. (y.owner < most_groups) × (head_group_of
     (frame_state_at m.frame_states f) ≡ Some y.owner))) is (ok.frame_states f inside)).0
 
 pub on_list : (links : List Link) (f : ℕ) (h : Home) → home_of links f ≡ Some h → list_of links h.owner f ≢ None

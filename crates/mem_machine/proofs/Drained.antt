@@ -2,6 +2,7 @@
 use Rattle.std.proofs.Common.{◌≡◌, ℕ, ◌+◌, ◌-◌, ◌<◌, ◌≤◌, true, Option, Some, None, List, [], ◌∷◌, get_or, refl, sym, ap, ◌∙◌, subst, inl, inr, arith}
 use Rattle.std.specs.List.{fold}
 use Rattle.std.specs.Prelude.{slice_set}
+use Rattle.group_tree.specs.Bounds.{most_groups}
 use Rattle.group_tree.specs.Groups.{has_group}
 use Rattle.group_charge.specs.declared.note.Note.TheVariants.{Stock}
 use Rattle.group_charge.specs.{Ledger, pages_of, KnownNotes, noted}
@@ -67,7 +68,7 @@ module _ (t : KnownTable) (m : KnownMachine) (u : State) (ok : IsShownBy t m u) 
   pub drain_owners : (owners : List (Option ℕ)) → AreOwners t.cpus u.parts owners → AreOwners t.cpus (drain_state u q n).parts owners
   drain_owners = owners_same t.cpus u.parts (drain_state u q n).parts drain_groups
 
-  pub drain_sums : (sums : List ℕ) → AreBooked t.cpus u.parts sums → (g : ℕ) → (u.parts q).stock.group ≡ Some g → g < 64
+  pub drain_sums : (sums : List ℕ) → AreBooked t.cpus u.parts sums → (g : ℕ) → (u.parts q).stock.group ≡ Some g → g < most_groups
       → AreBooked t.cpus (drain_state u q n).parts (slice_set sums g (get_or sums g 0 - n))
   drain_sums sums are g group fits = sums_less t.cpus u.parts q inside (drained (u.parts q) n) g n group group less sums are fits
 
@@ -77,7 +78,7 @@ module _ (t : KnownTable) (m : KnownMachine) (u : State) (ok : IsShownBy t m u) 
       (at_each u.parts q (drained (u.parts q) n) (λ j x. x.book ≡ (u.parts j).book) (omega (arith, none)) (λ j ne. refl)) drain_groups)
 
   -- its sum has the pages
-  pub drain_sum_within : (sums : List ℕ) → AreBooked t.cpus u.parts sums → (g : ℕ) → (u.parts q).stock.group ≡ Some g → g < 64 → n ≤ get_or sums g 0
+  pub drain_sum_within : (sums : List ℕ) → AreBooked t.cpus u.parts sums → (g : ℕ) → (u.parts q).stock.group ≡ Some g → g < most_groups → n ≤ get_or sums g 0
   drain_sum_within sums are g group fits =
       let book = book_within t.cpus u.parts q inside g group in let sum = are.each g fits in omega (arith, book, within, sum)
 
@@ -127,7 +128,7 @@ module _ (t : KnownTable) (m : KnownMachine) (ok : IsConsistent t m) (q n : ℕ)
     drain_charged t m (left_by t m.run.past) ok.shown q n k.inside within g group,
   )
 
-  pub sum_within : (sums : List ℕ) → AreBooked t.cpus (left_by t m.run.past).parts sums → (g : ℕ) → stock_group t m q ≡ Some g → g < 64 → n ≤ get_or sums g 0
+  pub sum_within : (sums : List ℕ) → AreBooked t.cpus (left_by t m.run.past).parts sums → (g : ℕ) → stock_group t m q ≡ Some g → g < most_groups → n ≤ get_or sums g 0
   sum_within sums are g group fits = drain_sum_within t m (left_by t m.run.past) ok.shown q n k.inside within sums are g group fits
 
   -- the ungrant is the second step
@@ -169,7 +170,7 @@ module _ (t : KnownTable) (m : KnownMachine) (ok : IsConsistent t m) (q n : ℕ)
     owners_then owners are = subst (λ (s : State). AreOwners t.cpus s.parts owners) (sym drain_left)
         (drain_owners t m (left_by t m.run.past) ok.shown q n k.inside within owners are)
 
-    pub sums_then : (sums : List ℕ) → AreBooked t.cpus (left_by t m.run.past).parts sums → (g : ℕ) → o ≡ Some g → g < 64
+    pub sums_then : (sums : List ℕ) → AreBooked t.cpus (left_by t m.run.past).parts sums → (g : ℕ) → o ≡ Some g → g < most_groups
         → AreBooked t.cpus (left_by t run.past).parts (slice_set sums g (get_or sums g 0 - n))
     sums_then sums are g of fits = subst (λ (s : State). AreBooked t.cpus s.parts (slice_set sums g (get_or sums g 0 - n))) (sym drain_left)
         (drain_sums t m (left_by t m.run.past) ok.shown q n k.inside within sums are g (group ∙ of) fits)
@@ -223,7 +224,7 @@ module _ {N : Type 0} (t : KnownTable) (fields : Inside N) (ok : IsSoundMachine 
   abbrev m : KnownMachine
   m = machine_of fields
 
-  pub drained_sound : (g : ℕ) → stock_group t (machine_of fields) q ≡ Some g → (i : ℕ) → i ≡ g → i < 64 → (run : KnownRun) → Records t (machine_of fields).run (drain_steps q (Some g) n) run
+  pub drained_sound : (g : ℕ) → stock_group t (machine_of fields) q ≡ Some g → (i : ℕ) → i ≡ g → i < most_groups → (run : KnownRun) → Records t (machine_of fields).run (drain_steps q (Some g) n) run
       → (charges : Ledger) → charges ≡ uncharged (machine_of fields).ledger (Some g) n
       → IsSoundMachine {N = N} t (record fields { charges = charges; sums = slice_set fields.sums i (get_or fields.sums i 0 - n); past = run.past; watch = run.watch })
   drained_sound g group i is fits run noted charges off = record {

@@ -1,26 +1,19 @@
 -- What drains leave of the stocks; and the stocks of a subtree, or of a group, are drained, one CPU after the other. Serves
--- `drain_each`, and the crates above.
-use Rattle.std.proofs.Common.{◌≡◌, ◌≢◌, ℕ, ◌+◌, ◌-◌, ◌*◌, ◌<◌, ◌≤◌, ◌==◌, ◌↔◌, Bool, true, false, Option, Some, None, List, [], ◌∷◌, ◌++◌, zero, suc, refl}
-use Rattle.std.proofs.Common.{map, cond, sym, ap, ◌∙◌, subst, inl, inr, arith}
-use Rattle.std.specs.Int.{bit_at}
+-- `drain_chosen`, and the crates above.
+use Rattle.std.proofs.Common.{◌≡◌, ℕ, ◌+◌, ◌-◌, ◌*◌, ◌≤◌, ◌==◌, Bool, true, false, Option, Some, None, List, [], ◌∷◌, ◌++◌, suc, refl}
+use Rattle.std.proofs.Common.{sym, ap, ◌∙◌, subst, inl, inr, arith}
 use Rattle.std.specs.Prelude.{is_some}
 use Rattle.std.proofs.lemmas.List.{append-nil}
-use Rattle.std.proofs.lemmas.List.Sums.{sum_by-append, sum_by-cons}
+use Rattle.std.proofs.lemmas.List.Sums.{sum_by-append}
 use Rattle.std.proofs.lemmas.Grind.{flat_map-append}
-use Rattle.std.proofs.lemmas.Bool.{cases_eq, cases_lt, cond_both, false_from_ne_true, false≢true}
-use Rattle.std.proofs.lemmas.Nat.Bits.{bit_at-zero}
-use Rattle.group_tree.specs.declared.group.Group.{Group}
-use Rattle.group_tree.specs.Groups.{in_subtree}
-use Rattle.group_charge.specs.declared.account.Account as charge
-use Rattle.group_charge.specs.Charges.{Ledger, current_of, taken, usage_charged}
-use Rattle.group_charge.proofs.SumLemmas.{share}
+use Rattle.std.proofs.lemmas.Bool.{cases_eq, false≢true}
 use Rattle.step_rules.specs.State.{Part, State}
 use Rattle.step_rules.specs.After.{Run, drained}
 use Rattle.step_rules.proofs.Basics.{at_other, at_same}
 use Rattle.boot_words.specs.Tables.{KnownTable}
 use Rattle.mem_machine.specs.{KnownMachine, part_at, stock_group, Makes, StaysVisited, Drain, drain_steps, drain_stocks_steps, pages_drained}
-use Rattle.mem_machine.specs.{AreChosen, AreChosenBySome, AreDrainedIf, Drains, DrainsAllIf, DrainsBySteps, DrainsIf, DrainsNoted, HasDrained}
-use Rattle.mem_machine.specs.{IsDrained, StockTest, uncharged}
+use Rattle.mem_machine.specs.{AreDrainedIf, Drains, DrainsAllIf, DrainsBySteps, DrainsIf, DrainsNoted, HasDrained}
+use Rattle.mem_machine.specs.{IsDrained, StockTest}
 use Rattle.mem_machine.proofs.Draining.{groups_stay}
 use Rattle.mem_machine.proofs.Followed.{makes_both, makes_none}
 
@@ -62,25 +55,6 @@ module _ (t : KnownTable) (q n : ℕ) (x y : KnownMachine) (d : Drains t q n x y
   drained_trees = ap (λ (k : KnownMachine). k.ledger.groups) d.machine ∙ groups_stay x.ledger (stock_group t x q) n
 
 -- ---- the usage
-
-less_if : (b : Bool) (p n : ℕ) → cond b (p - n) 0 ≤ cond b p 0
-less_if true p n = omega arith
-less_if false p n = omega arith
-
-usage_falls : (groups : List Group) (xs : List charge.Account) (g n m : ℕ) → usage_charged groups (map (taken g n) xs) m ≤ usage_charged groups xs m
-unfolding usage_charged
-usage_falls groups [] g n m = omega arith
-usage_falls groups (x ∷ xs) g n m =
-    let here : share groups m (taken g n x) ≤ share groups m x = cond_both (x.group == g) (record x { pages = x.pages - n }) x
-    (λ (y : charge.Account). share groups m y ≤ share groups m x) (λ _. less_if (in_subtree groups m x.group) x.pages n) (λ _. omega arith) in
-    let rest = usage_falls groups xs g n m in
-    let a = sum_by-cons (share groups m) (taken g n x) (map (taken g n) xs) in
-    let b = sum_by-cons (share groups m) x xs in
-    omega (arith, here, rest, a, b)
-
-pub current_falls : (l : Ledger) (o : Option ℕ) (n m : ℕ) → current_of (uncharged l o n) m ≤ current_of l m
-current_falls l None n m = omega arith
-current_falls l (Some g) n m = usage_falls l.groups l.accounts g n m
 
 -- ---- the drains of one CPU's stock, if it is chosen
 
@@ -126,8 +100,6 @@ pub record DrainedSoFar (t : KnownTable) (test : StockTest) (k pages : ℕ) (m n
   pub drains : List Drain
   pub all : DrainsAllIf t test k drains m n
   pub sum : pages ≡ pages_drained drains
-  pub groups : n.ledger.groups ≡ m.ledger.groups
-  pub owners : (q : ℕ) → stock_group t n q ≡ stock_group t m q
   pub drained : AreDrainedIf t test k n
   pub steps : Makes t m (drain_stocks_steps drains) n
   pub small : pages ≤ k * 4294967295
@@ -163,8 +135,6 @@ drained_more t test k pages more m x n before last stays bound =
             makes_last = subst (λ (j : ℕ). DrainsIf t test j last.drains x n) (sym next) last.all;
           });
       sum = omega (arith, both, a, b);
-      groups = below_groups t test (k + 1) x n last.drains last.all ∙ before.groups;
-      owners = λ q. below_owners t test (k + 1) x n last.drains last.all q ∙ before.owners q;
       drained = are_drained t test k x n last.drains last.all before.drained;
       steps = subst (λ (r : Run). Makes t m r n) list (makes_both t (drain_stocks_steps before.drains) (drain_stocks_steps last.drains) m x n before.steps last.steps);
       small = omega (arith, low, bound);
@@ -180,90 +150,21 @@ drained_end t test k pages m n so_far all = record {
 }
 
 -- no stock was drained yet
-drained_first : (t : KnownTable) (test : StockTest) (m : KnownMachine) → DrainedSoFar t test 0 0 m m
+pub drained_first : (t : KnownTable) (test : StockTest) (m : KnownMachine) → DrainedSoFar t test 0 0 m m
 drained_first t test m = record {
   drains = [];
   all = (refl, refl);
   sum = refl;
-  groups = refl;
-  owners = λ q. refl;
   drained = λ q some few. absurd (omega (arith, some, few));
   steps = makes_none t m;
   small = omega arith;
   visit = λ c visit. visit;
 }
 
--- the next stocks aren't chosen
-drained_past : (t : KnownTable) (test : StockTest) (k pages : ℕ) (m n : KnownMachine) → DrainedSoFar t test k pages m n → (d : ℕ)
-    → ((p : ℕ) → k ≤ p → p < k + d → test m.ledger.groups (stock_group t m (p + 1)) ≡ false) → DrainedSoFar t test (k + d) pages m n
-drained_past t test k pages m n before zero others = subst (λ (j : ℕ). DrainedSoFar t test j pages m n) (omega arith) before
-drained_past t test k pages m n before (suc d) others =
-    let now : test n.ledger.groups (stock_group t n (k + 1)) ≡ false = (λ i. test (before.groups i) (before.owners (k + 1) i)) ∙ others k (omega arith) (omega arith) in
-    let next = drained_more t test k pages 0 m n n before (drained_not t test (k + 1) n now) (λ c visit. visit) (omega arith) in
+-- the next stock isn't chosen
+pub drained_skips : (t : KnownTable) (test : StockTest) (k pages : ℕ) (m n : KnownMachine) → DrainedSoFar t test k pages m n
+    → test n.ledger.groups (stock_group t n (k + 1)) ≡ false → DrainedSoFar t test (k + 1) pages m n
+drained_skips t test k pages m n before now =
     let same : pages + 0 ≡ pages = omega arith in
-    subst (λ (j : ℕ). DrainedSoFar t test j pages m n) (omega arith)
-    (drained_past t test (k + 1) pages m n (subst (λ (j : ℕ). DrainedSoFar t test (k + 1) j m n) same next) d
-    (λ p from to. others p (omega (arith, from)) (omega (arith, to))))
-
--- ---- the chosen ones alone
-
--- What the loop of `drain_each` keeps: of the stocks that are chosen of the machine m, those from a place on are left, and
--- those before it are drained.
-pub record DrainedOfChosen (t : KnownTable) (m n : KnownMachine) (stocks rest pages : ℕ) : Type 0 where
-  pub done : ℕ
-  pub inside : done ≤ t.cpus
-  pub left : (p : ℕ) → p < 64 → (bit_at rest p ≡ 1) ↔ (done ≤ p) × (bit_at stocks p ≡ 1)
-  pub drained : (test : StockTest) → AreChosen t test m stocks → DrainedSoFar t test done pages m n
-
-module _ (t : KnownTable) (m n : KnownMachine) (stocks rest pages : ℕ) (so_far : DrainedOfChosen t m n stocks rest pages) (few : t.cpus ≤ 64) where
-  -- those between the last one drained and the first one left aren't chosen
-  passed : (p : ℕ) → so_far.done ≤ p → p ≤ t.cpus → ((i : ℕ) → i < p → bit_at rest i ≡ 0) → (test : StockTest) → AreChosen t test m stocks
-      → DrainedSoFar t test p pages m n
-  passed p from to none test chosen =
-      let d : ℕ = p - so_far.done in
-      let all : so_far.done + d ≡ p = omega (arith, from) in
-      subst (λ (j : ℕ). DrainedSoFar t test j pages m n) all (drained_past t test so_far.done pages m n (so_far.drained test chosen) d
-      (λ i after before. false_from_ne_true _ (λ is.
-      let low : i < p = omega (arith, before, all) in
-      let zero_bit = none i low in
-      let one = (so_far.left i (omega (arith, low, to, few))).1 (after, (chosen i (omega (arith, low, to, few))).1 (omega (arith, low, to), is)) in
-      absurd (omega (arith, zero_bit, one)))))
-
-  -- the first one left
-  module _ (p : ℕ) (low : p < 64) (here : bit_at rest p ≡ 1) (first : (i : ℕ) → i < p → bit_at rest i ≡ 0) (some : AreChosenBySome t m stocks) where
-    pub first_chosen : (test : StockTest) → AreChosen t test m stocks → (p < t.cpus) × (test m.ledger.groups (stock_group t m (p + 1)) ≡ true)
-    first_chosen test chosen = (chosen p low).0 ((so_far.left p low).0 here).1
-
-    pub one_drained : (left more : ℕ) (x : KnownMachine) → (bit_at left p ≡ 0) × (left < rest) × ((i : ℕ) → i < 64 → i ≢ p → bit_at left i ≡ bit_at rest i)
-        → DrainsNoted t (p + 1) more n x → Makes t n (drain_steps (p + 1) (stock_group t n (p + 1)) more) x → StaysVisited t n x → more ≤ 4294967295
-        → DrainedOfChosen t m x stocks left (pages + more)
-    one_drained left more x taken drains steps stays bound = record {
-      done = p + 1;
-      inside = let c = first_chosen some.test some.chosen in omega (arith, c.0);
-      left = λ i low_i. elim (cases_eq i p) [
-        | inl e ↦ (
-          λ one. absurd (let zero_bit = taken.0 in let one' : bit_at left p ≡ 1 = ap (bit_at left) (sym e) ∙ one in omega (arith, zero_bit, one')),
-          λ both. absurd (let after = both.0 in omega (arith, after, e)),
-        )
-        | inr ne ↦
-            let same = taken.2 i low_i ne in (
-              λ one.
-                  let was : bit_at rest i ≡ 1 = sym same ∙ one in
-                  let from : p + 1 ≤ i = elim (cases_lt i p) [
-                    | inl before ↦ absurd (let zero_bit = first i before in omega (arith, zero_bit, was))
-                    | inr after ↦ omega (arith, after, ne)
-                  ] in
-                  (from, ((so_far.left i low_i).0 was).1),
-              λ both. same ∙ (so_far.left i low_i).1 (let from = ((so_far.left p low).0 here).0 in let after = both.0 in omega (arith, from, after), both.1),
-            )
-      ];
-      drained = λ test chosen.
-          let is = first_chosen test chosen in
-          let before = passed p ((so_far.left p low).0 here).0 (omega (arith, is.0)) first test chosen in
-          let now : test n.ledger.groups (stock_group t n (p + 1)) ≡ true = (λ i. test (before.groups i) (before.owners (p + 1) i)) ∙ is.1 in
-          drained_more t test p pages more m n x before (drained_one t test (p + 1) more n x now drains steps) stays bound;
-    }
-
-  -- none is left
-  pub all_drained : rest ≡ 0 → (test : StockTest) → AreChosen t test m stocks → DrainedSoFar t test t.cpus pages m n
-  all_drained none = passed t.cpus so_far.inside (omega arith) (λ i before. ap (λ (w : ℕ). bit_at w i) none ∙ bit_at-zero i)
+    subst (λ (j : ℕ). DrainedSoFar t test (k + 1) j m n) same
+    (drained_more t test k pages 0 m n n before (drained_not t test (k + 1) n now) (λ c visit. visit) (omega arith))

@@ -3,9 +3,10 @@ use Rattle.std.proofs.Common.{◌≡◌, ℕ, ◌+◌, ◌<◌, ◌≤◌, Bool,
 use Rattle.std.proofs.Common.{subst, inl, inr, arith, zero, suc, ◌==◌, ◌++◌}
 use Rattle.std.proofs.lemmas.Bool.{cases_lt, cases_eq, ne_eqb}
 use Rattle.std.proofs.lemmas.List.{get_or-replicate, length-replicate, length_push, get_or_append_left, get_or_push}
+use Rattle.group_tree.specs.Bounds.{most_groups}
 use Rattle.zone_blocks.specs.Areas.{AreMaximalBlocks}
 use Rattle.std.specs.Prelude.{is_some}
-use Rattle.group_charge.specs.Charges.{Ledger, initial_ledger, pages_of, account_at}
+use Rattle.group_charge.specs.Charges.{Ledger, pages_of, account_at}
 use Rattle.group_charge.specs.Notes.{no_notes}
 use Rattle.lru_lists.specs.declared.record.Link.{Link}
 use Rattle.lru_lists.specs.declared.record.Home.{Home}
@@ -15,6 +16,7 @@ use Rattle.step_rules.specs.declared.phase.ChargedUnit.{ChargedUnit}
 use Rattle.step_rules.proofs.Sums.{sum_none}
 use Rattle.mem_machine.specs.declared.frame_state.FrameState.{FrameState}
 use Rattle.mem_machine.specs.declared.frame_state.FrameState.TheVariants.{Free, Head, Tail}
+use Rattle.mem_machine.specs.Machines.{boot_ledger}
 use Rattle.mem_machine.specs.{frame_state_at, free_of, frame_state_group, one_if_is, phase_hidden, AreUnits, AreEmpty, no_counts, KnownMachine}
 use Rattle.mem_machine.specs.{FitsFrameState, IsConsistent, IsFirst, IsShownBy, BalancesCounts, home_of, frames_charged, left_by, pages_booked}
 use Rattle.mem_machine.specs.{booked, AreBooked, AreOwners, Rests}
@@ -74,10 +76,10 @@ not_head unit e = cc
 not_tail : (g : ℕ) → Free ≡ Tail g → ⊥
 not_tail g e = cc
 
-no_pages : (g : ℕ) → pages_of initial_ledger g ≡ 0
+no_pages : (g : ℕ) → pages_of boot_ledger g ≡ 0
 unfolding pages_of account_at
 no_pages g = elim (cases_eq 0 g) [
-  | inl e ↦ subst (λ (h : ℕ). pages_of initial_ledger h ≡ 0) e refl
+  | inl e ↦ subst (λ (h : ℕ). pages_of boot_ledger h ≡ 0) e refl
   | inr ne ↦ let none : (0 == g) ≡ false = ne_eqb 0 g ne in rw none refl
 ]
 
@@ -115,7 +117,7 @@ module _ (t : KnownTable) (m : KnownMachine) (first : IsFirst t m) where
   shown_first : IsShownBy t m (hide (at_boot (zone_of_boot t)))
   shown_first = record {
     groups = sym (ap (λ (l : Ledger). l.groups) first.ledger);
-    killed = λ g. sym (ap (λ (l : List Bool). get_or l g false) first.killed ∙ repeated 64 g false);
+    killed = λ g. sym (ap (λ (l : List Bool). get_or l g false) first.killed ∙ repeated most_groups g false);
     phases = λ f. sym (ap phase_hidden (all_free f));
     references = λ f. sym (ap (λ (h : Option Home). one_if (is_some h)) (no_home f));
     settled = λ g. refl;
@@ -124,14 +126,14 @@ module _ (t : KnownTable) (m : KnownMachine) (first : IsFirst t m) where
     charged = charged_first;
   }
 
-  consistent_first : AreMaximalBlocks (free_of m.frame_states) m.blocks → length m.links ≡ t.frames → length m.lists ≡ 64 → AllLinked m.links m.lists → IsConsistent t m
+  consistent_first : AreMaximalBlocks (free_of m.frame_states) m.blocks → length m.links ≡ t.frames → length m.lists ≡ most_groups → AllLinked m.links m.lists → IsConsistent t m
   consistent_first areas links lists stand = record {
     choice = first.is_proportional;
     sizes = record {
       frame_states = ap length first.frame_states ∙ length-replicate t.frames Free;
       links = links;
       lists = lists;
-      killed = ap length first.killed ∙ length-replicate 64 false;
+      killed = ap length first.killed ∙ length-replicate most_groups false;
     };
     areas = areas;
     frame_states = frame_states_first;
@@ -143,19 +145,19 @@ module _ (t : KnownTable) (m : KnownMachine) (first : IsFirst t m) where
 
   -- what the parts of the first machine are made of
   pub starts : (free : List Bool) (frames : ℕ) → frames ≡ t.frames → length m.links ≡ frames
-      → AreEmpty m.lists 64 → free ≡ replicate frames true → AreMaximalBlocks free m.blocks → IsConsistent t m × (free ≡ free_of m.frame_states)
+      → AreEmpty m.lists most_groups → free ≡ replicate frames true → AreMaximalBlocks free m.blocks → IsConsistent t m × (free ≡ free_of m.frame_states)
   starts free frames sized links empty all areas =
       let same : free ≡ free_of m.frame_states = all ∙ ap (λ (n : ℕ). replicate n true) sized ∙ sym (ap free_of first.frame_states ∙ free_all t.frames) in (
         consistent_first (subst (λ (l : List Bool). AreMaximalBlocks l m.blocks) same areas) (links ∙ sized) empty.count
-            (empty_stand m.lists 64 empty m.links first.nowhere),
+            (empty_stand m.lists most_groups empty m.links first.nowhere),
         same,
       )
 
   -- nothing is booked
-  pub sums_first : (sums : List ℕ) → sums ≡ replicate 64 0 → AreBooked t.cpus (left_by t m.run.past).parts sums
+  pub sums_first : (sums : List ℕ) → sums ≡ replicate most_groups 0 → AreBooked t.cpus (left_by t m.run.past).parts sums
   sums_first sums zeros = subst (λ (u : State). AreBooked t.cpus u.parts sums) (sym left_first) (record {
-    size = ap length zeros ∙ length-replicate {A = ℕ} 64 0;
-    each = λ g fits. ap (λ (l : List ℕ). get_or l g 0) zeros ∙ repeated 64 g 0 ∙ sym (none_booked t.cpus (zone_of_boot t) g);
+    size = ap length zeros ∙ length-replicate {A = ℕ} most_groups 0;
+    each = λ g fits. ap (λ (l : List ℕ). get_or l g 0) zeros ∙ repeated most_groups g 0 ∙ sym (none_booked t.cpus (zone_of_boot t) g);
   })
 
   pub owners_first : (owners : List (Option ℕ)) → owners ≡ replicate 64 None → t.cpus ≤ 64 → AreOwners t.cpus (left_by t m.run.past).parts owners
@@ -177,7 +179,7 @@ module _ (t : KnownTable) (m : KnownMachine) (first : IsFirst t m) where
   }
 
 pub first_is : (t : KnownTable) (m : KnownMachine) (frames : ℕ) → frames ≡ t.frames → m.frame_states ≡ replicate frames Free
-    → m.ledger ≡ initial_ledger → AreNowhere m.links → m.killed ≡ replicate 64 false → m.counts ≡ no_counts
+    → m.ledger ≡ boot_ledger → AreNowhere m.links → m.killed ≡ replicate most_groups false → m.counts ≡ no_counts
     → m.notes ≡ no_notes → m.is_proportional ≡ t.choices.is_proportional → m.run.past ≡ seat_at_first t.table 0 → IsFirst t m
 first_is t m frames sized frame_states ledger nowhere killed counts notes choice past = record {
   frame_states = frame_states ∙ ap (λ (n : ℕ). replicate n Free) sized;

@@ -3,6 +3,7 @@ use Rattle.std.proofs.Common.{◌≡◌, ℕ, ◌<◌, Option, Some, List, lengt
 use Rattle.std.specs.Prelude.{slice_set, IfSome}
 use Rattle.std.proofs.lemmas.Option.{none-some}
 use Rattle.std.proofs.lemmas.List.{get_or-set_same, get_or_default, length-set}
+use Rattle.group_tree.specs.Bounds.{most_groups}
 use Rattle.lru_lists.specs.declared.record.Link.{Link}
 use Rattle.lru_lists.specs.declared.record.Home.{Home}
 use Rattle.lru_lists.specs.declared.lru.Lru.{Lru}
@@ -16,17 +17,17 @@ pub record AllLeave (links : List Link) (lists : List Lru) (f : ℕ) (after : Li
   pub leaves : LeavesList f (group_lists links lists) (group_lists after new)
   pub stand : AllLinked after new
   pub frames : length after ≡ length links
-  pub groups : length new ≡ 64
+  pub groups : length new ≡ most_groups
 
 -- the home is of one of the owners
-pub owner_within : (home : Option Home) (h : Home) (lists : List Lru) → Some h ≡ home → IfSome home (λ x. x.owner < 64) → length lists ≡ 64
+pub owner_within : (home : Option Home) (h : Home) (lists : List Lru) → Some h ≡ home → IfSome home (λ x. x.owner < most_groups) → length lists ≡ most_groups
     → h.owner < length lists
 owner_within home h lists is owner groups =
-    let bound : h.owner < 64 = subst (λ (x : Option Home). IfSome x (λ y. y.owner < 64)) (sym is) owner in
+    let bound : h.owner < most_groups = subst (λ (x : Option Home). IfSome x (λ y. y.owner < most_groups)) (sym is) owner in
     subst (λ (n : ℕ). h.owner < n) (sym groups) bound
 
-module _ (links : List Link) (lists : List Lru) (f : ℕ) (h : Home) (home : Some h ≡ home_of links f) (owner : IfSome (home_of links f) (λ x. x.owner < 64))
-    (groups : length lists ≡ 64) (all : AllLinked links lists) (lru any : Lru) (read : lru ≡ get_or lists h.owner any) where
+module _ (links : List Link) (lists : List Lru) (f : ℕ) (h : Home) (home : Some h ≡ home_of links f) (owner : IfSome (home_of links f) (λ x. x.owner < most_groups))
+    (groups : length lists ≡ most_groups) (all : AllLinked links lists) (lru any : Lru) (read : lru ≡ get_or lists h.owner any) where
   bound : h.owner < length lists
   bound = owner_within (home_of links f) h lists home owner groups
 

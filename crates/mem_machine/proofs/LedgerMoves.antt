@@ -7,6 +7,7 @@ use Rattle.std.specs.List.{find}
 use Rattle.std.specs.Option.{option_map_or, option_or}
 use Rattle.std.proofs.lemmas.Bool.{cases_eq, ne_eqb, eqb-true, not_from_false, true≢false}
 use Rattle.std.proofs.lemmas.List.Folds.{find-append}
+use Rattle.group_tree.specs.Bounds.{most_groups}
 use Rattle.group_tree.specs.declared.event.EventKey.{EventKey}
 use Rattle.group_tree.specs.declared.group.Group.{Group}
 use Rattle.group_tree.specs.{EventCounts, is_same_key, no_events, count_of, with_one_more, has_group, in_subtree, without_group, IsLeastFreeNumber}
@@ -38,7 +39,7 @@ module _ (s : State) (l : Ledger) (seen : s.groups ≡ l.groups) (facts : AreCha
   -- pages that are granted are in the usage of the group and of each of its ancestors
   granted_usage : (h : ℕ) → current_of (with_charge l g n) h ≡ usage_of (after s 0 (Grant g n) Granted) h
   granted_usage h =
-      let low : g < 64 = number_low l.groups g facts.groups there in
+      let low : g < most_groups = number_low l.groups g facts.groups there in
       let a = pending_moves s.groups s.pending h g (s.pending g + n) low in
       let b = pends_split s.groups h g (s.pending g) n in
       charge_rises l g n facts there h

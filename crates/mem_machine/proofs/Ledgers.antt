@@ -8,13 +8,15 @@ use Rattle.std.specs.Option.{option_map_or}
 use Rattle.std.proofs.lemmas.Bool.{cases_eq, cases_lt, ne_eqb, eq-eqb}
 use Rattle.std.proofs.lemmas.List.{get_or-map}
 use Rattle.std.proofs.lemmas.List.Sums.{sum_by-cons}
+use Rattle.group_tree.specs.Bounds.{most_groups}
 use Rattle.group_tree.specs.declared.group.Group.{Group}
-use Rattle.group_tree.specs.Groups.{the_root, in_subtree}
+use Rattle.group_tree.specs.Groups.{in_subtree}
 use Rattle.group_charge.specs.declared.account.Account.{Account}
 use Rattle.group_charge.specs.Charges.{Ledger, AreCharges, current_of, usage_charged, pages_of, account_at}
 use Rattle.group_charge.proofs.ChargeLemmas.{all_distinct, as_many}
 use Rattle.group_tree.specs.{is_in_subtree}
 use Rattle.step_rules.specs.{Part, one_if, sum_to}
+use Rattle.step_rules.specs.State.{boot_root}
 use Rattle.step_rules.proofs.Sums.{sum_same, sum_none, sum_both, sum_part, sum_swap, sum_only}
 use Rattle.boot_words.specs.Tables.{KnownTable}
 use Rattle.mem_machine.specs.declared.frame_state.FrameState.{FrameState}
@@ -89,38 +91,39 @@ by_number below n (x ∷ xs) distinct small =
           omega arith
     ]
 
--- each account's number is one of 64
-all_small : (l : Ledger) → AreCharges l → All (λ (a : Account). a.group < 64) l.accounts
+-- each account's number is one of a group
+all_small : (l : Ledger) → AreCharges l → All (λ (a : Account). a.group < most_groups) l.accounts
 all_small l facts = λ k d lt.
     let many = as_many l facts in
     let also : k < length l.groups = omega arith in
-    let same : (get_or l.accounts k d).group ≡ (get_or l.groups k the_root).number =
+    let same : (get_or l.accounts k d).group ≡ (get_or l.groups k boot_root).number =
     sym (get_or-map (λ (a : Account). a.group) l.accounts k d 0 lt) ∙ ap (λ (ns : List ℕ). get_or ns k 0) facts.numbers
-    ∙ get_or-map (λ (x : Group). x.number) l.groups k the_root 0 also in
-    let bound : (get_or l.groups k the_root).number < 64 = facts.groups.numbers k the_root also in
+    ∙ get_or-map (λ (x : Group). x.number) l.groups k boot_root 0 also in
+    let bound : (get_or l.groups k boot_root).number < most_groups =
+    let low = facts.groups.numbers k boot_root also in let room = facts.groups.room in omega arith in
     omega arith
 
-usage_by_number : (l : Ledger) (g : ℕ) → AreCharges l → current_of l g ≡ sum_to 64 (λ h. cond (in_subtree l.groups g h) (pages_of l h) 0)
+usage_by_number : (l : Ledger) (g : ℕ) → AreCharges l → current_of l g ≡ sum_to most_groups (λ h. cond (in_subtree l.groups g h) (pages_of l h) 0)
 unfolding usage_charged pages_of account_at
-usage_by_number l g facts = by_number (in_subtree l.groups g) 64 l.accounts (all_distinct l facts) (all_small l facts)
+usage_by_number l g facts = by_number (in_subtree l.groups g) most_groups l.accounts (all_distinct l facts) (all_small l facts)
 
 -- no account has another number
-none_beyond : (l : Ledger) (h : ℕ) → AreCharges l → 64 ≤ h → pages_of l h ≡ 0
+none_beyond : (l : Ledger) (h : ℕ) → AreCharges l → most_groups ≤ h → pages_of l h ≡ 0
 unfolding pages_of account_at
 none_beyond l h facts beyond = own_none l.accounts h (λ k d lt same. absurd (let a = all_small l facts k d lt in omega arith))
 
 -- ---- what one frame, or one book, counts for a subtree
 
 module _ (groups : List Group) (g : ℕ) where
-  picked : (k v : ℕ) (F : ℕ → ℕ) → k < 64 → F k ≡ v → ((h : ℕ) → (h ≡ k → ⊥) → F h ≡ 0)
-      → sum_to 64 (λ h. cond (in_subtree groups g h) (F h) 0) ≡ cond (in_subtree groups g k) v 0
+  picked : (k v : ℕ) (F : ℕ → ℕ) → k < most_groups → F k ≡ v → ((h : ℕ) → (h ≡ k → ⊥) → F h ≡ 0)
+      → sum_to most_groups (λ h. cond (in_subtree groups g h) (F h) 0) ≡ cond (in_subtree groups g k) v 0
   picked k v F small value others =
-      sum_only 64 (λ h. cond (in_subtree groups g h) (F h) 0) k small
+      sum_only most_groups (λ h. cond (in_subtree groups g h) (F h) 0) k small
       (λ h lt ne. ap (λ (x : ℕ). cond (in_subtree groups g h) x 0) (others h ne) ∙ cond_zero (in_subtree groups g h))
       ∙ ap (λ (x : ℕ). cond (in_subtree groups g k) x 0) value
 
-  picked_none : (F : ℕ → ℕ) → ((h : ℕ) → F h ≡ 0) → sum_to 64 (λ h. cond (in_subtree groups g h) (F h) 0) ≡ 0
-  picked_none F none = sum_none 64 _ (λ h lt. ap (λ (x : ℕ). cond (in_subtree groups g h) x 0) (none h) ∙ cond_zero (in_subtree groups g h))
+  picked_none : (F : ℕ → ℕ) → ((h : ℕ) → F h ≡ 0) → sum_to most_groups (λ h. cond (in_subtree groups g h) (F h) 0) ≡ 0
+  picked_none F none = sum_none most_groups _ (λ h lt. ap (λ (x : ℕ). cond (in_subtree groups g h) x 0) (none h) ∙ cond_zero (in_subtree groups g h))
 
   count_own : (k : ℕ) → one_if_is k (Some k) ≡ 1
   count_own k = ap (λ (b : Bool). cond b 1 0) (eq-eqb k k refl)
@@ -128,13 +131,13 @@ module _ (groups : List Group) (g : ℕ) where
   count_other : (k h : ℕ) → (h ≡ k → ⊥) → one_if_is h (Some k) ≡ 0
   count_other k h ne = ap (λ (b : Bool). cond b 1 0) (ne_eqb k h (λ e. ne (sym e)))
 
-  frame_counts : (o : Option ℕ) → ((k : ℕ) → o ≡ Some k → k < 64)
-      → sum_to 64 (λ h. cond (in_subtree groups g h) (one_if_is h o) 0) ≡ one_if (is_in_subtree groups g o)
+  frame_counts : (o : Option ℕ) → ((k : ℕ) → o ≡ Some k → k < most_groups)
+      → sum_to most_groups (λ h. cond (in_subtree groups g h) (one_if_is h o) 0) ≡ one_if (is_in_subtree groups g o)
   frame_counts None small = picked_none (λ h. 0) (λ h. refl)
   frame_counts (Some k) small = picked k 1 (λ h. one_if_is h (Some k)) (small k refl) (count_own k) (count_other k) ∙ cond_one (in_subtree groups g k)
 
-  book_counts : (o : Option ℕ) (b : ℕ) → ((k : ℕ) → o ≡ Some k → (k < 64) ⊎ (b ≡ 0))
-      → sum_to 64 (λ h. cond (in_subtree groups g h) (cond (one_if_is h o == 0) 0 b) 0) ≡ cond (is_in_subtree groups g o) b 0
+  book_counts : (o : Option ℕ) (b : ℕ) → ((k : ℕ) → o ≡ Some k → (k < most_groups) ⊎ (b ≡ 0))
+      → sum_to most_groups (λ h. cond (in_subtree groups g h) (cond (one_if_is h o == 0) 0 b) 0) ≡ cond (is_in_subtree groups g o) b 0
   book_counts None b small = picked_none (λ h. 0) (λ h. refl)
   book_counts (Some k) b small = elim (small k refl) [
     | inl inside ↦ picked k b (λ h. cond (one_if_is h (Some k) == 0) 0 b) inside (ap (λ (n : ℕ). cond (n == 0) 0 b) (count_own k))
@@ -163,8 +166,8 @@ module _ (t : KnownTable) (m : KnownMachine) (is : IsConsistent t m) (charges : 
   abbrev book_count : ℕ → ℕ → ℕ
   book_count h p = booked h (part p)
 
-  charged_frame : (f k : ℕ) → f < t.frames → frame_state_group (frame_state f) ≡ Some k → k < 64
-  charged_frame f k inside at = elim (cases_lt k 64) [
+  charged_frame : (f k : ℕ) → f < t.frames → frame_state_group (frame_state f) ≡ Some k → k < most_groups
+  charged_frame f k inside at = elim (cases_lt k most_groups) [
     | inl lt ↦ lt
     | inr beyond ↦ absurd (
         let none = none_beyond m.ledger k charges beyond in
@@ -175,8 +178,8 @@ module _ (t : KnownTable) (m : KnownMachine) (is : IsConsistent t m) (charges : 
         omega arith)
   ]
 
-  booked_pages : (p k : ℕ) → p < t.cpus + 1 → (part p).stock.group ≡ Some k → (k < 64) ⊎ ((part p).book ≡ 0)
-  booked_pages p k inside at = elim (cases_lt k 64) [
+  booked_pages : (p k : ℕ) → p < t.cpus + 1 → (part p).stock.group ≡ Some k → (k < most_groups) ⊎ ((part p).book ≡ 0)
+  booked_pages p k inside at = elim (cases_lt k most_groups) [
     | inl lt ↦ inl lt
     | inr beyond ↦ inr (
         let none = none_beyond m.ledger k charges beyond in
@@ -192,21 +195,21 @@ module _ (t : KnownTable) (m : KnownMachine) (is : IsConsistent t m) (charges : 
       + sum_to (t.cpus + 1) (λ q. cond (is_in_subtree groups g (part q).stock.group) (part q).book 0)
   ledger_visit_state =
       let by = usage_by_number m.ledger g charges in
-      let split = sum_same 64 (λ h. cond (in_subtree groups g h) (pages_of m.ledger h) 0)
+      let split = sum_same most_groups (λ h. cond (in_subtree groups g h) (pages_of m.ledger h) 0)
       (λ h. sum_to t.frames (λ f. cond (in_subtree groups g h) (frame_count h f) 0) + sum_to (t.cpus + 1)
       (λ p. cond (in_subtree groups g h) (book_count h p) 0))
       (λ h lt. ap (λ (n : ℕ). cond (in_subtree groups g h) n 0) (is.shown.charged h
       ∙ ap (λ (n : ℕ). sum_to n (frame_count h) + pages_booked t.cpus (left_by t m.run.past).parts h) is.sizes.frame_states)
       ∙ cond_plus (in_subtree groups g h) (sum_to t.frames (frame_count h)) (sum_to (t.cpus + 1) (book_count h))
       ∙ (λ i. cond_sum (in_subtree groups g h) t.frames (frame_count h) i + cond_sum (in_subtree groups g h) (t.cpus + 1) (book_count h) i)) in
-      let both = sum_both 64 (λ h. sum_to t.frames (λ f. cond (in_subtree groups g h) (frame_count h f) 0))
+      let both = sum_both most_groups (λ h. sum_to t.frames (λ f. cond (in_subtree groups g h) (frame_count h f) 0))
       (λ h. sum_to (t.cpus + 1) (λ p. cond (in_subtree groups g h) (book_count h p) 0)) in
-      let turned = sum_swap 64 t.frames (λ h f. cond (in_subtree groups g h) (frame_count h f) 0) in
-      let turned_too = sum_swap 64 (t.cpus + 1) (λ h p. cond (in_subtree groups g h) (book_count h p) 0) in
-      let frames = sum_same t.frames (λ f. sum_to 64 (λ h. cond (in_subtree groups g h) (frame_count h f) 0))
+      let turned = sum_swap most_groups t.frames (λ h f. cond (in_subtree groups g h) (frame_count h f) 0) in
+      let turned_too = sum_swap most_groups (t.cpus + 1) (λ h p. cond (in_subtree groups g h) (book_count h p) 0) in
+      let frames = sum_same t.frames (λ f. sum_to most_groups (λ h. cond (in_subtree groups g h) (frame_count h f) 0))
       (λ f. one_if (is_in_subtree groups g (frame_state_group (frame_state f))))
       (λ f lt. frame_counts groups g (frame_state_group (frame_state f)) (λ k at. charged_frame f k lt at)) in
-      let books = sum_same (t.cpus + 1) (λ p. sum_to 64 (λ h. cond (in_subtree groups g h) (book_count h p) 0))
+      let books = sum_same (t.cpus + 1) (λ p. sum_to most_groups (λ h. cond (in_subtree groups g h) (book_count h p) 0))
       (λ q. cond (is_in_subtree groups g (part q).stock.group) (part q).book 0)
       (λ p lt. book_counts groups g (part p).stock.group (part p).book (λ k at. booked_pages p k lt at)) in
       omega arith

@@ -21,7 +21,6 @@ pub mod Draining
 pub mod Drained
 pub mod DrainingAll
 pub mod StocksKept
-pub mod Choosing
 pub mod Prepaying
 pub mod Listed
 pub mod Dirties

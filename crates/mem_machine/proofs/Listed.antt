@@ -2,6 +2,7 @@
 -- before, and the lists of all other groups stay. Serves all calls that change a list.
 use Rattle.std.proofs.Common.{◌≡◌, ◌≢◌, ℕ, ◌<◌, ◌==◌, ◌||◌, ◌⊎◌, Bool, true, false, Option, Some, None, List, [], ◌∷◌, ◌++◌, length, map, refl, sym, ap, ◌∙◌}
 use Rattle.std.proofs.Common.{subst, inl, inr, eq-eqb, cond, get_or, arith}
+use Rattle.group_tree.specs.Bounds.{most_groups}
 use Rattle.boot_words.specs.Tables.{KnownTable}
 use Rattle.mem_machine.specs.FrameStates.{frame_state_at}
 use Rattle.std.specs.Prelude.{is_some, option_map, slice_set}
@@ -60,7 +61,7 @@ pub fits_home : (h k : Option Home) (frame_state : FrameState) → option_map (�
 fits_home None None frame_state same fits = fits
 fits_home None (Some k) frame_state same fits = absurd (none-some k.owner (sym same))
 fits_home (Some h) None frame_state same fits = absurd (none-some h.owner same)
-fits_home (Some h) (Some k) frame_state same fits = (subst (λ (n : ℕ). n < 64) (sym (some_same 0 k.owner h.owner same)) fits.0, fits.1 ∙ sym same)
+fits_home (Some h) (Some k) frame_state same fits = (subst (λ (n : ℕ). n < most_groups) (sym (some_same 0 k.owner h.owner same)) fits.0, fits.1 ∙ sym same)
 
 -- a frame on no list, which no owner has afterwards, has the record that it had
 none_stays : (h k : Option Home) → option_map (λ (x : Home). x.owner) k ≡ option_map (λ (x : Home). x.owner) h → h ≡ None → k ≡ None
@@ -243,7 +244,7 @@ touched_owners before after lru new f touched old stands owner changes on touche
 -- ---- the lists of all other groups
 
 -- if the lists of one group change, those of every other group are unchanged
-pub others_stay : (before after : List Link) (lists : List Lru) (g : ℕ) (lru new : Lru) → AllLinked before lists → length lists ≡ 64 → lru.owner ≡ g
+pub others_stay : (before after : List Link) (lists : List Lru) (g : ℕ) (lru new : Lru) → AllLinked before lists → length lists ≡ most_groups → lru.owner ≡ g
     → ChangesOwn before after lru.owner → OthersStayLinked → OthersStay g (group_lists before lists) (group_lists after (slice_set lists g new))
 others_stay before after lists g lru new all sized own changes others_stay_linked h list within ne =
     let inside : h < length lists = omega (arith, within, sized) in

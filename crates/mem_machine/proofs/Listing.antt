@@ -3,6 +3,7 @@ use Rattle.std.proofs.Common.{◌≡◌, ℕ, ◌<◌, ◌==◌, ◌||◌, Bool,
 use Rattle.std.proofs.lemmas.Bool.{cases_eq, cases_lt, ne_eqb, or_parts, false≢true}
 use Rattle.std.proofs.lemmas.Option.{none-some}
 use Rattle.std.proofs.lemmas.List.{get_or_past}
+use Rattle.group_tree.specs.Bounds.{most_groups}
 use Rattle.lru_lists.specs.declared.record.Link.{Link}
 use Rattle.lru_lists.specs.declared.record.Home.{Home}
 use Rattle.lru_lists.specs.declared.record.Entry.{Entry}
@@ -83,7 +84,7 @@ map_read : (links : List Link) (units : List ℕ) → AreAsRead links (map (entr
 map_read links [] = tt
 map_read links (x ∷ xs) = (refl, map_read links xs)
 
-pub listed_is : (t : KnownTable) (m : KnownMachine) → IsConsistent t m → (g : ℕ) → g < 64 → (list : LruList)
+pub listed_is : (t : KnownTable) (m : KnownMachine) → IsConsistent t m → (g : ℕ) → g < most_groups → (list : LruList)
     → IsListed m g list (entries_in m g list)
 listed_is t m ok g fits list =
     let sized = ok.sizes.lists in

@@ -87,12 +87,6 @@ may_all t past p a (e ∷ rest) who at all = (
   λ later made. may_all t later p (after_made a e) rest (made.cpu_grew.number ∙ who) (made.local_is ∙ ap (λ (s : State). after_made s e) at) all.1,
 )
 
--- after the first of two lists the second may be taken
-pub may_behind : (t : KnownTable) (past : KnownPasts) (first second : Run) (later : KnownPasts) → MayTakeAll t past (first ++ second) → MakesAll t past first later
-    → MayTakeAll t later second
-may_behind t past [] second later all is = subst (λ (s : KnownPasts). MayTakeAll t s second) (sym is) all
-may_behind t past (e ∷ rest) second later all made = may_behind t made.0 rest second later (all.1 made.0 made.1) made.2
-
 -- the first of two lists of local steps is legal
 pub local_legal : (p : ℕ) (a : State) (first second : Run) → AreLocal p a (first ++ second) → AreLegal a first
 local_legal p a [] second all = tt

@@ -2,6 +2,7 @@
 use Rattle.std.proofs.Common.{◌≡◌, ℕ, ◌<◌, false, Option, Some, None, List, [], ◌∷◌, ◌++◌, length, get_or, refl, sym, ap, ◌∙◌, subst, arith}
 use Rattle.std.specs.Prelude.{slice_set, option_map}
 use Rattle.std.proofs.lemmas.List.{get_or_default, get_or-set_same, length-set}
+use Rattle.group_tree.specs.Bounds.{most_groups}
 use Rattle.lru_lists.specs.declared.record.Link.{Link}
 use Rattle.lru_lists.specs.declared.record.Home.{Home}
 use Rattle.lru_lists.specs.declared.record.Entry.{Entry}
@@ -18,7 +19,7 @@ use Rattle.mem_machine.proofs.Followed.{makes_stay}
 -- ---- the lists as they are read
 
 -- the lists of a group number, as they are read from the machine
-module _ (t : KnownTable) (m : KnownMachine) (ok : IsConsistent t m) (g : ℕ) (fits : g < 64) (any lru : Lru) (read : lru ≡ get_or m.lists g any) where
+module _ (t : KnownTable) (m : KnownMachine) (ok : IsConsistent t m) (g : ℕ) (fits : g < most_groups) (any lru : Lru) (read : lru ≡ get_or m.lists g any) where
   there : g < length m.lists
   there = let a = ok.sizes.lists in omega (arith, a, fits)
 
@@ -37,7 +38,7 @@ pub record AreRead (now : KnownMachine) (g : ℕ) (lru : Lru) : Type 0 where
   pub owner : lru.owner ≡ g
   pub are : lists_at now.lists g ≡ lru
 
-pub lists_read : (t : KnownTable) (m now : KnownMachine) → m ≡ now → IsConsistent t m → (g i : ℕ) → i < 64 → i ≡ g → (any lru : Lru)
+pub lists_read : (t : KnownTable) (m now : KnownMachine) → m ≡ now → IsConsistent t m → (g i : ℕ) → i < most_groups → i ≡ g → (any lru : Lru)
     → lru ≡ get_or m.lists i any → AreRead now g lru
 lists_read t m now same ok g i fits is any lru read =
     subst (λ (x : KnownMachine × ℕ). AreRead x.0 x.1 lru) (λ j. (same j, is j)) (record {
@@ -82,7 +83,7 @@ pub record GroupChanged (t : KnownTable) (now : KnownMachine) (g : ℕ) (lru new
   pub unlisted : UnlistedStay now.links n.links
   pub steps : Makes t now [] n
 
-module _ (t : KnownTable) (m : KnownMachine) (ok : IsConsistent t m) (g : ℕ) (fits : g < 64) (any lru : Lru) (read : lru ≡ get_or m.lists g any)
+module _ (t : KnownTable) (m : KnownMachine) (ok : IsConsistent t m) (g : ℕ) (fits : g < most_groups) (any lru : Lru) (read : lru ≡ get_or m.lists g any)
     (links : List Link) (new : Lru) (now_stands : AreLinked links new) (owner : new.owner ≡ lru.owner) (changes : ChangesOwn m.links links lru.owner)
     (owners : SameOwners m.links links) (others_stay_linked : OthersStayLinked) (one_of_all_changes : OneOfAllChanges) where
   own : lru.owner ≡ g
@@ -112,7 +113,7 @@ module _ (t : KnownTable) (m : KnownMachine) (ok : IsConsistent t m) (g : ℕ) (
   }
 
 -- the same, of the machine as it was seen before
-pub change_all : (t : KnownTable) (m now : KnownMachine) → m ≡ now → IsConsistent t m → (g i : ℕ) → i < 64 → i ≡ g → (any lru : Lru)
+pub change_all : (t : KnownTable) (m now : KnownMachine) → m ≡ now → IsConsistent t m → (g i : ℕ) → i < most_groups → i ≡ g → (any lru : Lru)
     → lru ≡ get_or m.lists i any → (links : List Link) (new : Lru) → AreLinked links new → new.owner ≡ lru.owner → ChangesOwn m.links links lru.owner
     → SameOwners m.links links → OthersStayLinked → OneOfAllChanges
     → GroupChanged t now g lru new (record m { links = links; lists = slice_set m.lists i new })

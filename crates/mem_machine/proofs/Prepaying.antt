@@ -3,6 +3,7 @@ use Rattle.std.proofs.Common.{◌≡◌, ℕ, ◌+◌, ◌-◌, ◌<◌, ◌≤�
 use Rattle.std.specs.List.{fold}
 use Rattle.std.specs.Prelude.{slice_set}
 use Rattle.std.proofs.lemmas.Bool.{and_from, le-leb}
+use Rattle.group_tree.specs.Bounds.{most_groups}
 use Rattle.group_tree.specs.declared.group.Group.{Group}
 use Rattle.group_tree.specs.Groups.{has_group}
 use Rattle.group_tree.specs.Room as room
@@ -73,7 +74,7 @@ module _ (t : KnownTable) (m : KnownMachine) (u : State) (ok : IsShownBy t m u) 
         omega (arith, all, rise, books);
   }
 
-  fill_sums : (sums : List ℕ) → AreBooked t.cpus u.parts sums → g < 64 → AreBooked t.cpus (fill_state u p g k).parts (slice_set sums g (get_or sums g 0 + k))
+  fill_sums : (sums : List ℕ) → AreBooked t.cpus u.parts sums → g < most_groups → AreBooked t.cpus (fill_state u p g k).parts (slice_set sums g (get_or sums g 0 + k))
   fill_sums sums are fits = sums_more t.cpus u.parts p inside (filled (u.parts p) g k) g k empty refl more sums are fits
 
 -- ---- the steps
@@ -179,7 +180,7 @@ module _ (t : KnownTable) (m : KnownMachine) (c : KnownCpuLists) (ok : IsConsist
               (fill_shown t m (left_by t m.run.past) ok.shown c.number g k filler_is.1 booked_left facts there small run);
         })
 
-        pub filled_sums : (sums : List ℕ) → AreBooked t.cpus (left_by t m.run.past).parts sums → g < 64
+        pub filled_sums : (sums : List ℕ) → AreBooked t.cpus (left_by t m.run.past).parts sums → g < most_groups
             → AreBooked t.cpus (left_by t run.past).parts (slice_set sums g (get_or sums g 0 + k))
         filled_sums sums are fits = subst (λ (s : State). AreBooked t.cpus s.parts (slice_set sums g (get_or sums g 0 + k))) (sym fill_left)
             (fill_sums t m (left_by t m.run.past) ok.shown c.number g k filler_is.1 booked_left sums are fits)
@@ -253,14 +254,14 @@ module _ {N : Type 0} (t : KnownTable) (fields : Inside N) (ok : IsSoundMachine 
   m = machine_of fields
 
   -- the group's sum doesn't overflow
-  pub fill_fits : (now : KnownMachine) → machine_of fields ≡ now → HasRoomFor now k → (i : ℕ) → i ≡ g → i < 64 → get_or fields.sums i 0 + k < 2 ^ 32
+  pub fill_fits : (now : KnownMachine) → machine_of fields ≡ now → HasRoomFor now k → (i : ℕ) → i ≡ g → i < most_groups → get_or fields.sums i 0 + k < 2 ^ 32
   fill_fits now same room i is low =
       let booked = room_booked t m m refl ok.consistent facts g k knows.there (subst (λ (x : KnownMachine). HasRoomFor x k) (sym same) room) i is in
       let sum = ok.sums.each i low in
       omega (arith, booked, sum)
 
   module _ (has : room.PathHasRoom fields.charges.groups (current_of fields.charges) g k) (run : KnownRun) (noted : Records t (machine_of fields).run (fill_steps c.number g k) run) where
-    pub filled_sound : k < group_base → (i : ℕ) → i ≡ g → i < 64 → (n : ℕ) → n ≡ c.number → (charges : Ledger) → charges ≡ with_charge fields.charges g k → (owners : List (Option ℕ))
+    pub filled_sound : k < group_base → (i : ℕ) → i ≡ g → i < most_groups → (n : ℕ) → n ≡ c.number → (charges : Ledger) → charges ≡ with_charge fields.charges g k → (owners : List (Option ℕ))
         → owners ≡ slice_set fields.owners (n - 1) (Some g)
         → IsSoundMachine {N = N} t (record fields {
           charges = charges;
@@ -274,7 +275,7 @@ module _ {N : Type 0} (t : KnownTable) (fields : Inside N) (ok : IsSoundMachine 
       free = ok.free;
       clean = ok.clean;
       sums = subst (λ (x : ℕ). AreBooked t.cpus (left_by t run.past).parts (slice_set fields.sums x (get_or fields.sums x 0 + k))) (sym is)
-          (filled_sums t m c ok.consistent facts knows.visit none knows.drained g k knows.there knows.alive has run noted fields.sums ok.sums (subst (λ (x : ℕ). x < 64) is low));
+          (filled_sums t m c ok.consistent facts knows.visit none knows.drained g k knows.there knows.alive has run noted fields.sums ok.sums (subst (λ (x : ℕ). x < most_groups) is low));
       owners = subst (AreOwners t.cpus (left_by t run.past).parts) (sym (set ∙ ap (λ (x : ℕ). slice_set fields.owners (x - 1) (Some g)) number))
           (filled_owners t m c ok.consistent facts knows.visit none knows.drained g k knows.there knows.alive has run noted fields.owners ok.owners);
     }

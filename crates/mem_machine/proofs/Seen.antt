@@ -1,22 +1,21 @@
 -- What the lock's holder sees is what the machine's fields and its own lists show. Serves callers that read phases, parts
 -- or references of `local_of`.
-use Rattle.std.proofs.Common.{◌≡◌, ◌≢◌, ℕ, ◌==◌, ◌&&◌, List, cond, refl, sym, ap, ◌∙◌, subst}
-use Rattle.std.specs.Prelude.{is_some, nat_le, unwrap_or}
+use Rattle.std.proofs.Common.{◌≡◌, ℕ, ◌==◌, ◌&&◌, List, cond, refl, sym, ap, ◌∙◌, subst}
+use Rattle.std.specs.Prelude.{nat_le, unwrap_or}
 use Rattle.step_rules.specs.declared.phase.Phase.TheVariants as phase
 use Rattle.step_rules.specs.declared.phase.Stage.TheVariants.{FreshAt, BackAt, Live}
 use Rattle.step_rules.specs.declared.phase.Way.TheVariants.{OnList}
-use Rattle.step_rules.specs.{IsBooked, Part, one_if, times, Run, state_of, other_part_seen}
+use Rattle.step_rules.specs.{IsBooked, Part, times, Run, state_of}
 use Rattle.step_rules.specs.State.{State}
-use Rattle.step_rules.proofs.CoverParts.{own_part, other_part, other_reference}
+use Rattle.step_rules.proofs.CoverParts.{own_part}
 use Rattle.step_rules.proofs.Runs.{sound_run}
 use Rattle.boot_words.specs.{hide, show_phase, cpu_past, zone_of_boot, KnownTable}
 use Rattle.boot_words.proofs.Showing.{holder_sees_both}
 use Rattle.cpu_part.specs.Cpus.{KnownCpuLists}
 use Rattle.mem_machine.specs.declared.frame_state.FrameState.{FrameState}
 use Rattle.mem_machine.specs.declared.frame_state.FrameState.TheVariants.{Free, Lent, Head, Tail}
-use Rattle.mem_machine.specs.{frame_state_at, phase_hidden, KnownMachine, IsConsistent, home_of, left_by, part_at, Holds, group_of_fresh, local_of}
+use Rattle.mem_machine.specs.{frame_state_at, phase_hidden, KnownMachine, IsConsistent, left_by, Holds, group_of_fresh, local_of}
 use Rattle.mem_machine.specs.{phase_of, visit_state}
-use Rattle.mem_machine.proofs.Sight.{shown_seen}
 
 phase_as : (c : KnownCpuLists) (part : Part) (g f : ℕ) (x : FrameState) → unwrap_or part.stock.group 0 ≡ g → part.fresh ≡ c.fresh → part.back ≡ c.back
     → show_phase c.number part f (phase_hidden x) ≡ phase_of c g f x
@@ -54,25 +53,6 @@ module _ (t : KnownTable) (m : KnownMachine) (c : KnownCpuLists) (ok : IsConsist
       ∙ ap (show_phase c.number (u.parts c.number) f) hidden
       ∙ phase_as c (u.parts c.number) (group_of_fresh t (visit_state m c)) f x group
       (ap (λ (v : Part). v.fresh) (sym own_whole) ∙ holds.own.fresh) (ap (λ (v : Part). v.back) (sym own_whole) ∙ holds.own.back)
-
-  -- the zone has a reference on each frame that is on a list
-  pub zone_reference_seen : (f : ℕ) → (local_of t m).references 0 f ≡ one_if (is_some (home_of m.links f))
-  zone_reference_seen f = (shown_seen t m ok holds.held).references f
-
-  -- and other seats' references aren't seen
-  pub other_reference_seen : (q f : ℕ) → q ≢ 0 → q ≢ c.number → (local_of t m).references q f ≡ 0
-  other_reference_seen q f some other =
-      other_reference (cpu_past m.run.past).number (state_of (zone_of_boot t) (cpu_past m.run.past).seen).references q f some (λ e. other (e ∙ holds.who))
-
-  -- another CPU's part is what the past left of it
-  pub other_part_here : (q : ℕ) → q ≢ c.number → (local_of t m).parts q ≡ part_at t m q
-  other_part_here q other =
-      other_part (cpu_past m.run.past).number (state_of (zone_of_boot t) (cpu_past m.run.past).seen).parts q (λ e. other (e ∙ holds.who))
-      ∙ ap (λ (v : State). v.parts q) (sym left_whole)
-
-  -- the CPU's own part without its lists is what the past left of it
-  pub own_part_here : other_part_seen ((local_of t m).parts c.number) ≡ part_at t m c.number
-  own_part_here = ap other_part_seen own_whole ∙ ap (λ (v : State). v.parts c.number) (sym left_whole)
 
   -- and its book is the pages of its stock and of its fresh frames
   pub own_booked : IsBooked ((local_of t m).parts c.number)

@@ -14,8 +14,8 @@ use Rattle.step_rules.proofs.Basics.{at_each, at_same}
 use Rattle.step_rules.proofs.Runs.{after_illegal}
 use Rattle.boot_words.specs.{IsHeld, stock_in, stock_said, KnownTable}
 use Rattle.cpu_part.specs.{KnownCpuLists, HasOwn}
-use Rattle.mem_machine.specs.{Makes, Visits, local_of, KnownMachine, part_at, stock_group, after_made, stock_now, AreDrainedIf, Fills, HasDrained}
-use Rattle.mem_machine.specs.{IsDrained, StockTest}
+use Rattle.mem_machine.specs.{Makes, Visits, local_of, KnownMachine, part_at, stock_group, after_made, stock_now, Fills, HasDrained}
+use Rattle.mem_machine.specs.{IsDrained}
 use Rattle.mem_machine.proofs.Sight.{left_seen}
 
 -- the step may change a stock
@@ -80,11 +80,6 @@ module _ (t : KnownTable) (m n : KnownMachine) (steps : Run) (is : IsHeld t m.ru
       let here : HasDrained ((local_of t n).parts p) =
       subst (λ (stock : PartStock). (stock.group ≡ None) ⊎ (stock.is_drained ≡ true)) (sym (stock_seen p)) seen in
       subst (λ (s : State). HasDrained (s.parts p)) (sym (left_seen t n.run.past (makes.noted.grew.held is))) here
-
-  -- so those of a subtree, or of a group, stay drained
-  pub all_drained_kept : (test : StockTest) (cpus : ℕ) → n.ledger.groups ≡ m.ledger.groups → AreDrainedIf t test cpus m → AreDrainedIf t test cpus n
-  all_drained_kept test cpus groups were p some few chosen =
-      drained_kept p (were p some few ((λ i. test (sym groups i) (sym (groups_kept p) i)) ∙ chosen))
 
   -- the own stock has the same pages
   pub stock_kept : (c d : KnownCpuLists) → d.number ≡ c.number → stock_now t n d.number ≡ stock_now t m c.number

@@ -11,6 +11,7 @@ use Rattle.std.proofs.lemmas.Option.{none-some}
 use Rattle.zone_blocks.specs.declared.block.Block.{Block}
 use Rattle.zone_blocks.specs.{IsBlock, IsFree, IsFreeBlock, AreMaximalBlocks, HasNoneFrom, IsFrontOfSmallest, TakesFrames, block_at}
 use Rattle.zone_blocks.proofs.Halves.{lower_half}
+use Rattle.group_tree.specs.Bounds.{most_groups}
 use Rattle.group_tree.specs.{has_group, PathHasRoom, IsLowestOver}
 use Rattle.group_charge.specs.Charges.{Ledger, current_of, pages_of, with_charge, with_uncharge, PagesRise, AreCharges}
 use Rattle.group_charge.proofs.CallerLemmas.{uncharge_events, uncharge_pages, uncharge_peaks}
@@ -220,7 +221,7 @@ module _ (t : KnownTable) (m : KnownMachine) (ok : IsConsistent t m) (facts : Ar
   -- ---- what it leaves
 
   module _ (frame_states : List FrameState) (places : PlacesUnit g b m.frame_states frame_states) (links : List Link) (lists : List Lru)
-      (joined : AllJoin m.links m.lists g b.at links lists) (fits : g < 64) where
+      (joined : AllJoin m.links m.lists g b.at links lists) (fits : g < most_groups) where
     phases_then : (f : ℕ) → hide_phase (kept.phases f) ≡ phase_hidden (frame_state_at frame_states f)
     phases_then f = elim (cases_eq f b.at) [
       | inl e ↦ ap hide_phase (ap kept.phases e ∙ head_live) ∙ sym (ap phase_hidden (places.records f ∙ head_of_block m.frame_states g b f e))
@@ -308,7 +309,7 @@ pub record AllTaken (t : KnownTable) (now n : KnownMachine) (g k f : ℕ) (free 
   pub visit : StaysVisited t now n
   pub steps : Makes t now (taken_steps g k f) n
 
-pub taken_all : (t : KnownTable) (m now : KnownMachine) → m ≡ now → IsConsistent t m → AreCharges m.ledger → IsHeld t now.run.past → (g : ℕ) → g < 64
+pub taken_all : (t : KnownTable) (m now : KnownMachine) → m ≡ now → IsConsistent t m → AreCharges m.ledger → IsHeld t now.run.past → (g : ℕ) → g < most_groups
     → (k pages : ℕ) → pages ≡ 2 ^ k → MayCharge now g (2 ^ k) → PathHasRoom m.ledger.groups (current_of m.ledger) g pages → (ledger : Ledger) → ledger ≡ with_charge m.ledger g pages
     → PagesRise m.ledger ledger g pages → (before free : List Bool) (b : Block) (blocks : List Block) → before ≡ free_of m.frame_states
     → IsFrontOfSmallest m.blocks k b → TakesFrames before b free → AreMaximalBlocks free blocks → (frame_states : List FrameState) → PlacesUnit g b m.frame_states frame_states

@@ -2,6 +2,7 @@
 -- its stock's book. Serves `take_block`, `remove` and `fill_stock`.
 use Rattle.std.proofs.Common.{◌≡◌, ℕ, ◌+◌, ◌==◌, Bool, true, false, cond, Option, Some, List, refl, sym, ap, ◌∙◌, arith}
 use Rattle.std.proofs.lemmas.Bool.{ne_eqb}
+use Rattle.group_tree.specs.Bounds.{most_groups}
 use Rattle.group_tree.specs.declared.group.Group.{Group}
 use Rattle.group_tree.specs.Groups.{in_subtree}
 use Rattle.group_charge.specs.Charges.{AreCharges, current_of}
@@ -80,7 +81,7 @@ module _ (t : KnownTable) (m : KnownMachine) (ok : IsConsistent t m) (charges : 
       let stocks : pages_prepaid s.groups s.parts s.zone.cpus g ≡ sum_to (t.cpus + 1) (λ q. cond (is_in_subtree groups g (s.parts q).stock.group) (s.parts q).book 0) =
       (λ i. pages_prepaid (ok.shown.groups i) s.parts ((zone i).cpus) g) ∙ sum_same (t.cpus + 1) _ _ (λ q inside. stock_is groups (s.parts q) (book_is q)) in
       let none : pages_pending s.groups s.pending g ≡ 0 =
-      sum_none 64 _ (λ h inside. ap (λ (n : ℕ). cond (in_subtree s.groups g h) n 0) (ok.shown.settled h) ∙ cond_zero (in_subtree s.groups g h)) in
+      sum_none most_groups _ (λ h inside. ap (λ (n : ℕ). cond (in_subtree s.groups g h) n 0) (ok.shown.settled h) ∙ cond_zero (in_subtree s.groups g h)) in
       let all = ledger_visit_state t m ok charges g in
       omega (arith, frames, stocks, none, all)
 

@@ -9,10 +9,8 @@ pub mod Transitions
 pub mod Start
 pub mod Steps
 pub mod Lending
-pub mod Owners
 pub mod Booked
 pub mod Stocks
-pub mod Subtrees
 pub mod Marks
 pub mod Ageing
 pub mod Freeing
@@ -52,12 +50,10 @@ pub use Rattle.mem_machine.specs.Steps.{refill_steps, remove_steps, set_max_step
 pub use Rattle.mem_machine.specs.Steps.{unlist_steps}
 pub use Rattle.mem_machine.specs.Lending.{HasListRoom, LendsByStep, LendsFrame, LendsMany, LendsNone, LendsOne, Refills, UnlistsByStep, UnlistsMany}
 pub use Rattle.mem_machine.specs.Lending.{UnlistsNone, UnlistsOne}
-pub use Rattle.mem_machine.specs.Owners.{AreOwnedBy, AreStocksOf}
 pub use Rattle.mem_machine.specs.Booked.{AreBooked, AreOwners}
-pub use Rattle.mem_machine.specs.Stocks.{AreChosen, AreChosenBySome, AreDrained, AreDrainedIf, AreOwnDrained, Drains, DrainsAllBelow, DrainsAllIf}
+pub use Rattle.mem_machine.specs.Stocks.{AreDrained, AreDrainedIf, AreOwnDrained, Drains, DrainsAllBelow, DrainsAllIf}
 pub use Rattle.mem_machine.specs.Stocks.{DrainsBySteps, DrainsGroup, DrainsIf, DrainsNoted, DrainsSubtree, Fills, FitsStock, HasDrained, IsDrained}
 pub use Rattle.mem_machine.specs.Stocks.{RefusesGrant, StockTest, of_group, of_subtree, uncharged}
-pub use Rattle.mem_machine.specs.Subtrees.{IsSubtree}
 pub use Rattle.mem_machine.specs.Marks.{Dirties, TouchesUnit}
 pub use Rattle.mem_machine.specs.Ageing.{AgesGroup, RenewsUnit}
 pub use Rattle.mem_machine.specs.Freeing.{FreesFrames}

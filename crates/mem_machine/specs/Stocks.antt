@@ -1,6 +1,5 @@
 -- How stocks are drained and filled.
-use Rattle.std.specs.Prelude.{◌≡◌, ◌⊎◌, ℕ, zero, suc, ◌+◌, ◌≤◌, ◌<◌, ◌↔◌, Bool, true, false, Option, Some, None, List, [], ◌∷◌, ◌++◌}
-use Rattle.std.specs.Int.{bit_at}
+use Rattle.std.specs.Prelude.{◌≡◌, ◌⊎◌, ℕ, zero, suc, ◌≤◌, ◌<◌, Bool, true, false, Option, Some, None, List, [], ◌∷◌, ◌++◌}
 use Rattle.group_tree.specs.Room.{PathHasRoom}
 use Rattle.group_charge.specs.{Ledger, current_of, with_charge, with_uncharge, noted}
 use Rattle.group_tree.specs.declared.group.Group.{Group}
@@ -12,6 +11,8 @@ use Rattle.boot_words.specs.Tables.{KnownTable}
 use Rattle.mem_machine.specs.Machines.{KnownMachine, left_by, part_at}
 use Rattle.mem_machine.specs.Local.{Makes}
 use Rattle.mem_machine.specs.Steps.{Drain, drain_stocks_steps, over_steps, pages_drained}
+use Rattle.mem_machine.specs.declared.stocks.Stocks.{Stocks}
+use Rattle.mem_machine.specs.declared.stocks.Stocks.TheVariants.{OfGroup, OfSubtree}
 -- the group of the CPU's stock
 pub use Rattle.mem_machine.specs.Machines.{stock_group}
 
@@ -67,19 +68,14 @@ of_subtree group groups stock = is_in_subtree groups group stock
 abbrev pub of_group : ℕ → StockTest
 of_group group groups stock = is_of_group stock group
 
+-- these stocks, as a test
+abbrev pub test_of : Stocks → StockTest
+test_of (OfGroup group) = of_group group
+test_of (OfSubtree group) = of_subtree group
+
 -- the test chooses the CPU's stock
 abbrev pub is_chosen : KnownTable → StockTest → KnownMachine → ℕ → Bool
 is_chosen table test machine cpu = test machine.ledger.groups (stock_group table machine cpu)
-
--- The word has a 1 in the place of each CPU whose stock the test chooses, and in no other. That of CPU 1 is 0.
-abbrev pub AreChosen : KnownTable → StockTest → KnownMachine → ℕ → Type 0
-AreChosen table test machine stocks = (place : ℕ) → place < 64 → (bit_at stocks place ≡ 1)
-    ↔ (place < table.cpus) × (is_chosen table test machine (place + 1) ≡ true)
-
--- these stocks are chosen by some test
-pub record AreChosenBySome (table : KnownTable) (machine : KnownMachine) (stocks : ℕ) : Type 0 where
-  pub test : StockTest
-  pub chosen : AreChosen table test machine stocks
 
 -- If the test chooses the CPU's stock, that stock is drained, and this is the one drain. Else there is no drain, and
 -- nothing changes.

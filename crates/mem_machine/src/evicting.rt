@@ -7,10 +7,9 @@ ghost use Rattle.mem_machine.specs.Local.{Makes, StaysVisited};
 ghost use Rattle.mem_machine.specs.Evicting.{Evicts, evict_steps};
 
 use crate::frame_state::FrameState;
-use crate::freed::free_unit;
+use crate::freed::return_unit;
 use crate::lists::leave_list;
 use crate::machine::Machine;
-use crate::stepping::make_step;
 use cpu_part::{BootName, Tables};
 use frame_word::Frame;
 use step_rules::step::{Action, Answer};
@@ -49,16 +48,16 @@ impl<N: BootName> Machine<N> {
             order,
             frame,
         );
-        free_unit(
+        return_unit(
+            tables,
+            &mut self.past,
+            &mut self.watch,
             &mut self.zone,
             &mut self.frame_states,
             &mut self.charges,
             frame,
             unit,
         );
-        make_step(tables, &mut self.past, &mut self.watch, || {
-            (Action::Return { frame }, Answer::Done)
-        });
         self.counts = self.counts.with_freeze();
         let pages = order.frames();
         self.notes.note_unit(group, frame, pages);

@@ -24,7 +24,6 @@
 #![tactic(auto)]
 
 mod ageing;
-pub mod bit_set;
 mod blocks;
 mod choices;
 mod counts;
@@ -63,4 +62,4 @@ pub use machine::Machine;
 pub use proving::{prove_charges, prove_groups, prove_number, prove_order, prove_sizes};
 pub use releasing::Released;
 pub use step_rules::laws::{other_step, own_step};
-pub use subtrees::subtree;
+pub use subtrees::is_in_subtree;

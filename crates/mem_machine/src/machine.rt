@@ -35,7 +35,7 @@ pub struct Machine<N: BootName> {
     pub(crate) charges: Charges,
     // A link for each frame, by its number. Only the heads of kept units are linked into their groups' lists.
     pub(crate) links: Links,
-    // The ends and lengths of the two lists of each of the 64 group numbers, by the number.
+    // The ends and lengths of the two lists of each group number, by the number.
     pub(crate) lists: Vec<Lru>,
     // How many clean pages are on the lists of each group, by its number. At most 2^32 frames may each head a unit of 1,024
     // pages, so no count overflows.
@@ -45,7 +45,7 @@ pub struct Machine<N: BootName> {
     pub(crate) sums: [u32; MAX_GROUPS],
     // Only calls of the machine change the group of a stock, so no look is needed to find it.
     pub(crate) owners: StockOwners,
-    // Whether each of the 64 group numbers is killed, by the number.
+    // Whether each group number is killed, by the number.
     pub(crate) killed: Vec<bool>,
     // How many units ended, were freed, or were missed since the boot.
     pub(crate) counts: Counts,

@@ -23,7 +23,7 @@ pub fn prove_sizes<N: BootName>(tables: &Tables<N>)
     let _cpus = tables.words.cpus();
 }
 
-/// Shows that a group's number is below 64.
+/// Shows that a group's number is below `most_groups`.
 #[inline(always)]
 pub fn prove_number(group: GroupId)
     ensures { group < most_groups }

@@ -7,10 +7,9 @@ ghost use Rattle.mem_machine.specs.Local.{Makes, StaysVisited, Visits};
 ghost use Rattle.mem_machine.specs.Releasing.{Releases, release_steps};
 
 use crate::frame_state::FrameState;
-use crate::freed::free_unit;
+use crate::freed::return_unit;
 use crate::lists::leave_list;
 use crate::machine::Machine;
-use crate::stepping::make_step;
 use cpu_part::{BootName, CpuLists, Tables};
 use frame_word::{Frame, Put};
 use step_rules::step::{Action, Answer};
@@ -58,16 +57,16 @@ impl<N: BootName> Machine<N> {
             Put::Last => {
                 self.watch
                     .take(0, || (Action::Put { frame: at }, Answer::Last));
-                free_unit(
+                return_unit(
+                    tables,
+                    &mut self.past,
+                    &mut self.watch,
                     &mut self.zone,
                     &mut self.frame_states,
                     &mut self.charges,
                     at,
                     unit,
                 );
-                make_step(tables, &mut self.past, &mut self.watch, || {
-                    (Action::Return { frame: at }, Answer::Done)
-                });
                 self.counts = self.counts.with_last_put();
                 Released::Returned
             }

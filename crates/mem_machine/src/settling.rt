@@ -13,12 +13,11 @@ ghost use Rattle.mem_machine.specs.Settling.{all_fresh_steps, collect_steps, ret
 ghost use Rattle.step_watch.specs.Watched.{Watches};
 
 use crate::frame_state::{FrameState, single_order};
-use crate::freed::free_unit;
+use crate::freed::return_unit;
 use crate::lists::join_list;
 use crate::machine::Machine;
 use crate::passed::collect_passed;
 use crate::publishing::publish;
-use crate::stepping::make_step;
 use boot_words::PastSeat;
 use cpu_part::{BootName, CpuLists, Tables};
 use frame_word::Frame;
@@ -124,16 +123,16 @@ impl<N: BootName> Machine<N> {
         let at = frame.number();
         let order = single_order();
         let unit = ChargedUnit { group, order };
-        free_unit(
+        return_unit(
+            tables,
+            &mut self.past,
+            &mut self.watch,
             &mut self.zone,
             &mut self.frame_states,
             &mut self.charges,
             at,
             unit,
         );
-        make_step(tables, &mut self.past, &mut self.watch, || {
-            (Action::Return { frame: at }, Answer::Done)
-        });
         self.counts = self.counts.with_killed_fresh();
         frame
     }
@@ -154,16 +153,16 @@ impl<N: BootName> Machine<N> {
         let FrameState::Head(unit) = self.frame_states[at as usize] else {
             unreachable!()
         };
-        free_unit(
+        return_unit(
+            tables,
+            &mut self.past,
+            &mut self.watch,
             &mut self.zone,
             &mut self.frame_states,
             &mut self.charges,
             at,
             unit,
         );
-        make_step(tables, &mut self.past, &mut self.watch, || {
-            (Action::Return { frame: at }, Answer::Done)
-        });
         self.counts = self.counts.with_last_put();
         Some(frame)
     }

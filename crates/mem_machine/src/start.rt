@@ -3,7 +3,8 @@
 ghost use Rattle.std.specs.Prelude.{◌≡◌, true, false, replicate, length, IfOk};
 ghost use Rattle.zone_blocks.specs.Areas.{AreMaximalBlocks};
 ghost use Rattle.lru_lists.specs.Queue.{AreNowhere};
-ghost use Rattle.group_charge.specs.{initial_ledger, no_notes};
+ghost use Rattle.group_charge.specs.{no_notes};
+ghost use Rattle.mem_machine.specs.Machines.{boot_ledger};
 ghost use Rattle.mem_machine.specs.Start.{AreEmpty};
 ghost use Rattle.mem_machine.specs.declared.frame_state.FrameState.TheVariants.{Free};
 ghost use Rattle.group_tree.specs.Bounds.{most_groups};
@@ -37,7 +38,7 @@ pub(crate) fn new_parts(alloc: Global, frames: u32) -> Result<Parts, AllocError>
     ensures frame_states { IfOk result (λ parts. parts.frame_states.items ≡ replicate frames Free) }
     ensures frames { IfOk result (λ parts. length parts.links ≡ frames) }
     ensures nowhere { IfOk result (λ parts. AreNowhere parts.links) }
-    ensures charges { IfOk result (λ parts. parts.charges ≡ initial_ledger) }
+    ensures charges { IfOk result (λ parts. parts.charges ≡ boot_ledger) }
     ensures lists { IfOk result (λ parts. AreEmpty parts.lists.items most_groups) }
     ensures killed { IfOk result (λ parts. parts.killed.items ≡ replicate most_groups false) }
     ensures notes { IfOk result (λ parts. parts.notes ≡ no_notes) }
@@ -73,13 +74,13 @@ fn frame_parts(alloc: Global, frames: u32) -> Result<(Buddy, Vec<FrameState>, Li
 // The parts that have a place for each group number: charges, two empty lists each, and the marks of killed groups.
 // Only the root exists.
 fn group_parts(alloc: Global) -> Result<(Charges, Vec<Lru>, Vec<bool>), AllocError>
-    ensures charges { IfOk result (λ parts. parts.0 ≡ initial_ledger) }
+    ensures charges { IfOk result (λ parts. parts.0 ≡ boot_ledger) }
     ensures lists { IfOk result (λ parts. AreEmpty parts.1.items most_groups) }
     ensures killed { IfOk result (λ parts. parts.2.items ≡ replicate most_groups false) }
 {
     let killed = no_marks(alloc)?;
     let lists = empty_lists(alloc)?;
-    let charges = Charges::new(alloc)?;
+    let charges = Charges::new(alloc, MAX_GROUPS as u32 - 1)?;
     Ok((charges, lists, killed))
 }
 

@@ -6,22 +6,30 @@ ghost use Rattle.group_tree.specs.Groups.{has_group};
 ghost use Rattle.mem_machine.specs.Machines.{IsCpuOf, LacksRoom};
 ghost use Rattle.mem_machine.specs.Local.{Makes, StaysVisited, Visits};
 ghost use Rattle.mem_machine.specs.Stocks.{AreDrained, AreOwnDrained, FitsStock, IsDrained, stock_group};
-ghost use Rattle.mem_machine.specs.Stocks.{of_subtree, AreChosen, AreChosenBySome, AreDrainedIf, Drains, DrainsAllIf};
-ghost use Rattle.mem_machine.specs.Stocks.{DrainsBySteps, DrainsGroup, DrainsNoted, DrainsSubtree, StockTest};
+ghost use Rattle.mem_machine.specs.Stocks.{AreDrainedIf, Drains, DrainsAllIf, is_chosen, test_of};
+ghost use Rattle.mem_machine.specs.Stocks.{DrainsBySteps, DrainsGroup, DrainsNoted, DrainsSubtree};
 ghost use Rattle.mem_machine.specs.Stocks.{Fills, RefusesGrant};
 ghost use Rattle.mem_machine.specs.Paying.{MayCharge};
 ghost use Rattle.mem_machine.specs.Steps.{drain_steps, fill_steps};
 
-use crate::bit_set;
 use crate::machine::Machine;
 use crate::proving::{prove_charges, prove_sizes};
 use crate::stepping::make_step;
-use crate::subtrees::is_at_or_below;
+use crate::subtrees::is_in_subtree;
 use cpu_part::{BootName, CpuLists, Tables};
 use group_charge::charges::Over;
 use group_charge::note::Note;
 use group_tree::group::GroupId;
 use step_rules::step::{Action, Answer};
+
+// Which stocks a call drains.
+#[derive(Clone, Copy)]
+enum Stocks {
+    // Those of the group itself.
+    OfGroup(GroupId),
+    // Those of the group and of its descendants.
+    OfSubtree(GroupId),
+}
 
 impl<N: BootName> Machine<N> {
     /// Drains the stock of any CPU of the boot, and returns how many pages were in it. They are no longer booked to
@@ -65,36 +73,35 @@ impl<N: BootName> Machine<N> {
         pages
     }
 
-    // The stocks of groups in the subtree of `group`.
-    fn stocks_below(&self, group: GroupId) -> u64
-        requires there { IsTrue (has_group self.now.ledger.groups group) }
-        ensures { AreChosen N.table (of_subtree group) self.now result }
+    // Whether the CPU's stock is one of these.
+    fn is_chosen(&self, stocks: &Stocks, cpu: u32) -> bool
+        requires cpu { IsCpuOf N.table cpu }
+        ensures { result ≡ is_chosen N.table (test_of stocks.now) self.now cpu }
     {
-        let tree = self.charges.tree();
-        let mut stocks = 0;
-        for row in tree.groups() {
-            if is_at_or_below(tree, group, row.number) {
-                stocks |= self.owners.stocks_of(row.number);
-            }
+        let Some(owner) = self.owners.group(cpu as usize - 1) else {
+            return false;
+        };
+        match stocks {
+            Stocks::OfGroup(group) => owner == *group,
+            Stocks::OfSubtree(group) => is_in_subtree(self.charges.tree(), *group, owner),
         }
-        stocks
     }
 
     // Drains and notes these stocks, by ascending CPU, and returns how many pages were in them.
-    fn drain_each(&mut self, tables: &Tables<N>, stocks: u64) -> u64
-        requires chosen { AreChosenBySome N.table self.old stocks }
+    fn drain_chosen(&mut self, tables: &Tables<N>, stocks: &Stocks) -> u64
         requires held { IsHeld N.table self.old.run.past }
-        ensures drains { (test : StockTest) → AreChosen N.table test self.old stocks
-            → DrainsBySteps N.table (DrainsAllIf N.table test N.table.cpus) result self.old self.new }
-        ensures drained { (test : StockTest) → AreChosen N.table test self.old stocks
-            → AreDrainedIf N.table test N.table.cpus self.new }
+        ensures drains { DrainsBySteps N.table (DrainsAllIf N.table (test_of stocks.now) N.table.cpus) result self.old self.new }
+        ensures drained { AreDrainedIf N.table (test_of stocks.now) N.table.cpus self.new }
         ensures visit { StaysVisited N.table self.old self.new }
     {
         prove_sizes(tables); // At most 64 stocks have at most 65,535 pages each.
-        let mut rest = stocks;
         let mut pages = 0;
-        while let Some(place) = bit_set::take_first(&mut rest) {
-            pages += u64::from(self.drain_noted(tables, place + 1));
+        for place in 0..tables.words.cpus() {
+            let cpu = place + 1;
+            if !self.is_chosen(stocks, cpu) {
+                continue;
+            }
+            pages += u64::from(self.drain_noted(tables, cpu));
         }
         pages
     }
@@ -109,8 +116,7 @@ impl<N: BootName> Machine<N> {
         ensures drained { AreDrained N.table group self.new }
         ensures visit { StaysVisited N.table self.old self.new }
     {
-        let stocks = self.stocks_below(group);
-        self.drain_each(tables, stocks)
+        self.drain_chosen(tables, &Stocks::OfSubtree(group))
     }
 
     /// Drains all stocks of the group itself, empty ones included, and returns how many pages were in them. They are
@@ -121,8 +127,7 @@ impl<N: BootName> Machine<N> {
         ensures drained { AreOwnDrained N.table group self.new }
         ensures visit { StaysVisited N.table self.old self.new }
     {
-        let stocks = self.owners.stocks_of(group);
-        self.drain_each(tables, stocks)
+        self.drain_chosen(tables, &Stocks::OfGroup(group))
     }
 
     /// Charges `pages` pages (1 to 65,535) to a group that isn't killed, and fills the visited CPU's stock with them.

@@ -2,16 +2,14 @@
 
 ghost use Rattle.std.specs.Prelude.{◌≡◌, IsTrue};
 ghost use Rattle.group_tree.specs.Groups.{has_group, in_subtree};
-ghost use Rattle.mem_machine.specs.Subtrees.{IsSubtree};
 
-use crate::bit_set;
 use crate::proving::prove_groups;
 use group_tree::group::GroupId;
 use group_tree::tree::Tree;
 
-/// Whether `other` is `group` or a descendant of it. The walk up from it ends where it is no deeper than `group`.
+// Whether `other` is `group` or a descendant of it. The walk up from it ends where it is no deeper than `group`.
 #[tactic(auto, using(crate::proofs::Depths::below_itself, crate::proofs::Depths::root_not_below))]
-pub(crate) fn is_at_or_below(tree: &Tree, group: GroupId, other: GroupId) -> bool
+fn is_at_or_below(tree: &Tree, group: GroupId, other: GroupId) -> bool
     requires group { IsTrue (has_group tree.now group) }
     requires other { IsTrue (has_group tree.now other) }
     ensures { result ≡ in_subtree tree.now group other }
@@ -31,16 +29,9 @@ pub(crate) fn is_at_or_below(tree: &Tree, group: GroupId, other: GroupId) -> boo
     true
 }
 
-/// The groups of the subtree of `group`, each a 1 in the place of its number.
-pub fn subtree(tree: &Tree, group: GroupId) -> u64
-    requires { IsTrue (has_group tree.now group) }
-    ensures { IsSubtree tree.now group result }
+/// Whether both groups exist, and `other` is `group` or a descendant of it.
+pub fn is_in_subtree(tree: &Tree, group: GroupId, other: GroupId) -> bool
+    ensures { result ≡ in_subtree tree.now group other }
 {
-    let mut groups = 0;
-    for row in tree.groups() {
-        if is_at_or_below(tree, group, row.number) {
-            groups |= bit_set::with(0, row.number.number());
-        }
-    }
-    groups
+    tree.contains(group) && tree.contains(other) && is_at_or_below(tree, group, other)
 }

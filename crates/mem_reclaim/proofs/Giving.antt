@@ -1,22 +1,19 @@
 -- The pass of shares, and the groups of a pass. Serves `shares`, `reclaiming` and the laws about them.
-use Rattle.std.proofs.Common.{◌≡◌, ◌≢◌, ℕ, zero, suc, ◌+◌, ◌-◌, ◌<◌, ◌≤◌, ◌==◌, ◌&&◌, Bool, true, false, Some, List, [], ◌∷◌, ◌++◌, replicate, cond, get_or, length, refl, sym, ap, ◌∙◌, subst, inl, inr, arith, eq-eqb}
+use Rattle.std.proofs.Common.{◌≡◌, ℕ, zero, suc, ◌+◌, ◌-◌, ◌<◌, ◌≤◌, ◌==◌, ◌&&◌, Bool, true, false, Some, List, [], ◌∷◌, ◌++◌, replicate, cond, get_or, length, refl, sym, ap, ◌∙◌, subst, inl, inr, arith, eq-eqb}
 use Rattle.std.specs.Prelude.{filter, min, nat_lt, slice_index, slice_set}
-use Rattle.std.specs.Int.{bit_at}
 use Rattle.std.specs.List.{count_by, range_with_len}
 use Rattle.std.proofs.lemmas.Bool.{cases_eq, cases_lt, cond-false, cond-true, le-ltb, ne_eqb}
 use Rattle.std.proofs.lemmas.List.{append-nil, get_or_past, get_or-set_other, get_or-set_same, length-replicate, length-set}
 use Rattle.std.proofs.lemmas.List.Sums.{sum_by-append}
-use Rattle.std.proofs.lemmas.Nat.Bits.{bit_at-zero}
 use Rattle.group_tree.specs.{AreGroups, in_subtree, most_groups}
 use Rattle.group_tree.proofs.CallerLemmas.{in_subtree-below}
 use Rattle.group_charge.specs.Charges.{Ledger, current_of}
 use Rattle.group_charge.specs.declared.note.Note.TheVariants.{Spared}
-use Rattle.group_charge.proofs.KeptLemmas.{number_below}
+use Rattle.group_tree.proofs.CallerLemmas.{number_below}
 use Rattle.group_protection.specs.Protections.{effective, low_key, min_key}
 use Rattle.group_protection.specs.Shares.{Sharing, reclaim_share}
 use Rattle.boot_words.specs.Tables.{KnownTable}
-use Rattle.mem_machine.specs.{IsSubtree, KnownMachine, clean_pages}
-use Rattle.mem_machine.proofs.First.{repeated}
+use Rattle.mem_machine.specs.{KnownMachine, clean_pages}
 use Rattle.mem_reclaim.specs.declared.passes.Pass.TheVariants.{First}
 use Rattle.mem_reclaim.specs.Laws.{GroupsWithoutShareHaveNoTurn, TurnsKeepToTheirShare, TurnsLeaveOutNoGroup}
 use Rattle.mem_reclaim.specs.Moves.{FreesBySteps}
@@ -33,7 +30,7 @@ none_given true x away = absurd (away refl)
 none_given false x away = refl
 
 -- a group outside the subtree gives nothing
-may_give_none : (m : KnownMachine) (target g : ℕ) → (in_subtree m.ledger.groups target g ≡ true → ⊥) → may_give m target g ≡ 0
+pub may_give_none : (m : KnownMachine) (target g : ℕ) → (in_subtree m.ledger.groups target g ≡ true → ⊥) → may_give m target g ≡ 0
 unfolding may_give
 may_give_none m target g away = none_given (in_subtree m.ledger.groups target g) _ away
 
@@ -48,46 +45,36 @@ may_give_is m l target g result clean used spared least low rest same inside cle
     ∙ (λ i. min (clean_pages m g) (current_of m.ledger g - spared_by First (effective min_key (same i) target g) (effective low_key (same i) target g)))
     ∙ sym (cond-true (in_subtree m.ledger.groups target g) _ 0 inside)
 
--- it is known what each group may give but those that are left
-pub record GivesSoFar (m : KnownMachine) (target rest : ℕ) (available : List ℕ) : Type 0 where
-  pub size : length available ≡ 64
-  pub left : (k : ℕ) → k < 64 → bit_at rest k ≡ 1 → in_subtree m.ledger.groups target k ≡ true
-  pub known : (k : ℕ) → k < 64 → bit_at rest k ≢ 1 → get_or available k 0 ≡ may_give m target k
+-- it is known what each group of a lesser number may give
+pub record GivesSoFar (m : KnownMachine) (target k : ℕ) (available : List ℕ) : Type 0 where
+  pub size : length available ≡ most_groups
+  pub known : (i : ℕ) → i < k → get_or available i 0 ≡ may_give m target i
 
-pub gives_none : (m : KnownMachine) (target all : ℕ) → IsSubtree m.ledger.groups target all → GivesSoFar m target all (replicate 64 0)
-gives_none m target all are = record {
-  size = length-replicate {A = ℕ} 64 0;
-  left = λ k low one. (are k low).0 one;
-  known = λ k low away. repeated 64 k 0 ∙ sym (may_give_none m target k (λ inside. away ((are k low).1 inside)));
-}
+pub gives_none : (m : KnownMachine) (target : ℕ) → GivesSoFar m target 0 (replicate most_groups 0)
+gives_none m target = record { size = length-replicate {A = ℕ} most_groups 0; known = λ i low. absurd (omega (arith, low)) }
 
-pub gives_more : (m : KnownMachine) (target rest left k x : ℕ) (available : List ℕ) → GivesSoFar m target rest available → k < 64
-    → (bit_at left k ≡ 0) × (left < rest) × ((i : ℕ) → i < 64 → i ≢ k → bit_at left i ≡ bit_at rest i)
-    → x ≡ may_give m target k → GivesSoFar m target left (slice_set available k x)
-gives_more m target rest left k x available so fits taken is = record {
+pub gives_more : (m : KnownMachine) (target k x : ℕ) (available : List ℕ) → GivesSoFar m target k available → k < most_groups
+    → x ≡ may_give m target k → GivesSoFar m target (k + 1) (slice_set available k x)
+gives_more m target k x available so fits is = record {
   size = length-set available k x ∙ so.size;
-  left = λ i low one. elim (cases_eq i k) [
-    | inl e ↦ absurd (let zero_bit = taken.0 in let one' : bit_at left k ≡ 1 = ap (bit_at left) (sym e) ∙ one in omega (arith, zero_bit, one'))
-    | inr ne ↦ so.left i low (sym (taken.2 i low ne) ∙ one)
-  ];
-  known = λ i low away. elim (cases_eq i k) [
+  known = λ i low. elim (cases_eq i k) [
     | inl e ↦
         subst (λ (j : ℕ). get_or (slice_set available k x) j 0 ≡ may_give m target j) (sym e)
         (get_or-set_same available k x 0 (let s = so.size in omega (arith, s, fits)) ∙ is)
-    | inr ne ↦ get_or-set_other available k i x 0 ne ∙ so.known i low (λ one. away (taken.2 i low ne ∙ one))
+    | inr ne ↦ get_or-set_other available k i x 0 ne ∙ so.known i (omega (arith, low, ne))
   ];
 }
 
-pub gives_all : (m : KnownMachine) (target rest : ℕ) (available : List ℕ) → AreGroups m.ledger.groups → rest ≡ 0 → GivesSoFar m target rest available
+pub gives_all : (m : KnownMachine) (target k : ℕ) (available : List ℕ) → AreGroups m.ledger.groups → most_groups ≤ k → GivesSoFar m target k available
     → slice_index available ≡ may_give m target
-gives_all m target rest available facts none so = λ i k. each k i
+gives_all m target k available facts past so = λ i j. each j i
   where
-    each : (k : ℕ) → slice_index available k ≡ may_give m target k
-    each k = elim (cases_lt k 64) [
-      | inl low ↦ so.known k low (λ one. let zero_bit : bit_at rest k ≡ 0 = ap (λ (x : ℕ). bit_at x k) none ∙ bit_at-zero k in absurd (omega (arith, one, zero_bit)))
-      | inr past ↦
-          get_or_past available k 0 (let s = so.size in omega (arith, s, past))
-          ∙ sym (may_give_none m target k (λ inside. let low = number_below m.ledger.groups k facts (in_subtree-below m.ledger.groups target k inside) in absurd (omega (arith, low, past))))
+    each : (j : ℕ) → slice_index available j ≡ may_give m target j
+    each j = elim (cases_lt j most_groups) [
+      | inl low ↦ so.known j (omega (arith, low, past))
+      | inr beyond ↦
+          get_or_past available j 0 (let s = so.size in omega (arith, s, beyond))
+          ∙ sym (may_give_none m target j (λ inside. let low = number_below m.ledger.groups j facts (in_subtree-below m.ledger.groups target j inside) in absurd (omega (arith, low, beyond))))
     ]
 
 -- ---- the pass
@@ -240,4 +227,4 @@ count_once p g k (suc n) is from before = elim (cases_eq k g) [
 pub turns_leave_out_no_group : TurnsLeaveOutNoGroup
 unfolding subtree_of
 turns_leave_out_no_group groups target g facts inside =
-    count_once (in_subtree groups target) g 0 64 inside (omega arith) (number_below groups g facts (in_subtree-below groups target g inside))
+    count_once (in_subtree groups target) g 0 most_groups inside (omega arith) (number_below groups g facts (in_subtree-below groups target g inside))

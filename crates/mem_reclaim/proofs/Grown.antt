@@ -48,10 +48,6 @@ module _ (t : KnownTable) (m : KnownMachine) (steps : Run) (n : KnownMachine) (r
   pub misses_after : (f : ℕ) → misses_of n f ≡ misses_of m f + missed_in f steps
   misses_after f = missed_grown f steps (own_past m.run.past) (own_past n.run.past) held.holds.zone_is (runs.noted.grew.zone_grew held)
 
-  -- steps that leave who holds the lock
-  pub hold_after : (fold after_made (local_of t m) steps).hold ≡ (local_of t m).hold → (local_of t n).hold ≡ (local_of t m).hold
-  hold_after same = ap (λ (s : State). s.hold) (runs.noted.grew.sees held) ∙ same
-
   -- steps that leave the stocks
   pub parts_after : (cpu : ℕ) → (fold after_made (local_of t m) steps).parts cpu ≡ (local_of t m).parts cpu → part_at t n cpu ≡ part_at t m cpu
   parts_after cpu same =

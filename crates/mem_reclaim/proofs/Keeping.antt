@@ -10,10 +10,10 @@ use Rattle.lru_lists.specs.{link_at, SameOwners, owner_of}
 use Rattle.boot_words.specs.Tables.{KnownTable}
 use Rattle.cpu_part.specs.Cpus.{KnownCpuLists}
 use Rattle.mem_machine.specs.{KnownMachine, home_of, left_by, Makes, Visits, KnownRun, evict_steps, MissesUnit, EvictsUnit, Evicts}
-use Rattle.boot_words.specs.Pasts.{IsHeld, local_by_pasts, own_past}
+use Rattle.boot_words.specs.Pasts.{IsHeld, own_past}
 use Rattle.mem_machine.proofs.Made.{visit_same}
 use Rattle.mem_reclaim.specs.{missed_in, IsDirtyUnit, Keeps, OnlyLeave, IsMissed}
-use Rattle.mem_reclaim.proofs.Grown.{hold_after, misses_after, parts_after}
+use Rattle.mem_reclaim.proofs.Grown.{misses_after, parts_after}
 
 -- ---- one call after another
 
@@ -23,7 +23,6 @@ keeps_none t m = record {
   killed = refl;
   groups = refl;
   settings = refl;
-  hold = refl;
   usage = λ g. omega arith;
   visit = λ c v. v;
   dirty = λ f is. is;
@@ -46,7 +45,6 @@ keeps_both t a b c p q = record {
   killed = q.killed ∙ p.killed;
   groups = q.groups ∙ p.groups;
   settings = q.settings ∙ p.settings;
-  hold = q.hold ∙ p.hold;
   usage = λ g. let x = p.usage g in let y = q.usage g in omega (arith, x, y);
   visit = λ x v. q.visit x (p.visit x v);
   dirty = λ f is. q.dirty f (p.dirty f is);
@@ -62,7 +60,6 @@ keeps_noted t m n notes k = record {
   killed = k.killed;
   groups = k.groups;
   settings = k.settings;
-  hold = k.hold;
   usage = k.usage;
   visit = λ c v. visit_same t n (record n { notes = notes }) c refl (k.visit c v);
   dirty = λ f is. let x = k.dirty f is in record { kept = x.kept; dirty = x.dirty };
@@ -78,7 +75,6 @@ keeps_after_notes t m n notes k = record {
   killed = k.killed;
   groups = k.groups;
   settings = k.settings;
-  hold = k.hold;
   usage = k.usage;
   visit = λ c v. k.visit c (visit_same t m (record m { notes = notes }) c refl v);
   dirty = λ f is. k.dirty f (record { kept = is.kept; dirty = is.dirty });
@@ -110,7 +106,6 @@ keeps_owners t m n is owners =
       killed = ap (λ (x : KnownMachine). x.killed) is;
       groups = ap (λ (x : KnownMachine). x.ledger.groups) is;
       settings = ap (λ (x : KnownMachine). x.ledger.settings) is;
-      hold = ap (λ (r : KnownRun). (local_by_pasts t r.past).hold) same;
       usage = λ g. let e = ap (λ (x : KnownMachine). current_of x.ledger g) is in omega (arith, e);
       visit = λ c v. visit_same t m n c same v;
       dirty = λ f d. record { kept = still_kept (home_of m.links f) (home_of n.links f) (owners.owner f) d.kept; dirty = owners.dirty f ∙ d.dirty };
@@ -138,7 +133,6 @@ module _ (t : KnownTable) (m n : KnownMachine) (f : ℕ) (visit : (c : KnownCpuL
         killed = ap (λ (x : KnownMachine). x.killed) is;
         groups = ap (λ (x : KnownMachine). x.ledger.groups) is;
         settings = ap (λ (x : KnownMachine). x.ledger.settings) is;
-        hold = hold_after t m (evict_steps f None) n runs held refl;
         usage = λ g. let e = ap (λ (x : KnownMachine). current_of x.ledger g) is in omega (arith, e);
         visit = visit;
         dirty = λ g d. subst (λ (l : List Link). IsDirtyUnit l g) (sym links) d;
@@ -156,7 +150,6 @@ module _ (t : KnownTable) (m n : KnownMachine) (f : ℕ) (visit : (c : KnownCpuL
         killed = ap (λ (x : KnownMachine). x.killed) is.machine;
         groups = ap (λ (x : KnownMachine). x.ledger.groups) is.machine;
         settings = ap (λ (x : KnownMachine). x.ledger.settings) is.machine;
-        hold = hold_after t m (evict_steps f (Some pages)) n runs held refl;
         usage = λ g. let e = is.usage g in let low = on_path_low (in_subtree n.ledger.groups g is.unit.group) (current_of n.ledger g) pages in omega (arith, e, low);
         visit = visit;
         dirty = λ g d.

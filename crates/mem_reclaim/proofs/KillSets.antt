@@ -7,6 +7,7 @@ use Rattle.std.proofs.lemmas.Bool.{and_parts, or_parts, true≢false}
 use Rattle.std.proofs.lemmas.List.{append_assoc, append-nil, get_or-set_other}
 use Rattle.std.proofs.lemmas.List.Elements.{All-append, All-cons, All-nil}
 use Rattle.std.proofs.lemmas.List.Sums.{fold-append}
+use Rattle.group_tree.specs.Bounds.{most_groups}
 use Rattle.group_tree.specs.Groups.{in_subtree, is_oom_group}
 use Rattle.group_charge.specs.Charges.{current_of, with_group_kill_noted}
 use Rattle.step_rules.specs.declared.step.Action.{Action}
@@ -94,7 +95,6 @@ pub lets_before_note : (t : KnownTable) (m b : KnownMachine) (last : Note) → O
 lets_before_note t m b last k = record {
   groups = k.groups;
   settings = k.settings;
-  hold = k.hold;
   usage = k.usage;
   visit = λ c v. visit_same t b (with_note b last) c refl (k.visit c v);
   leaves = k.leaves;
@@ -106,7 +106,6 @@ pub lets_after_note : (t : KnownTable) (m n : KnownMachine) (first : Note) → O
 lets_after_note t m n first k = record {
   groups = k.groups;
   settings = k.settings;
-  hold = k.hold;
   usage = k.usage;
   visit = λ c v. k.visit c (visit_same t m (with_note m first) c refl v);
   leaves = k.leaves;
@@ -259,7 +258,7 @@ below_more t limited root m k now s may n one =
           ∙ s.alive j (omega (arith, le));
     }
 
-pub below_all : (t : KnownTable) (limited root : ℕ) (m : KnownMachine) (k : ℕ) (now : KnownMachine) → KilledSoFar t limited root m k now → k ≡ 64
+pub below_all : (t : KnownTable) (limited root : ℕ) (m : KnownMachine) (k : ℕ) (now : KnownMachine) → KilledSoFar t limited root m k now → k ≡ most_groups
     → KilledSo t (alive_in_subtree m root) (KillsGroups t limited (alive_in_subtree m root)) m now
 below_all t limited root m k now s all = subst (λ (x : ℕ). KilledSo t (alive_to m root x) (KillsGroups t limited (alive_to m root x)) m now) all s.so
 
@@ -311,7 +310,7 @@ subtree_killed t limited root m a b n noted so_a counted usage runs visit held =
       keeps = only_lets_both t m b n (lets_after_note t m b note so.keeps)
           (only_lets_same t b (note_group_kill_steps root) n runs held_then
           (ap (λ (x : KnownMachine). x.ledger.groups) counted) (ap (λ (x : KnownMachine). x.ledger.settings) counted) (λ g. let e = usage g in omega (arith, e))
-          (ap (λ (x : KnownMachine). x.links) counted) visit (λ s. refl) (λ f. refl));
+          (ap (λ (x : KnownMachine). x.links) counted) visit (λ f. refl));
     }
 
 -- ---- the victim, and all that die with it

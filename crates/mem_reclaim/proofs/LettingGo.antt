@@ -5,27 +5,26 @@ use Rattle.std.specs.Prelude.{slice_set}
 use Rattle.std.proofs.lemmas.Bool.{cases_eq, false≢true}
 use Rattle.std.proofs.lemmas.Option.{none-some}
 use Rattle.std.proofs.lemmas.List.{append_assoc, append-nil}
+use Rattle.group_tree.specs.Bounds.{most_groups}
 use Rattle.lru_lists.specs.declared.record.Link.{Link}
 use Rattle.lru_lists.specs.declared.record.Home.{Home}
 use Rattle.lru_lists.specs.declared.record.Entry.{Entry}
 use Rattle.lru_lists.specs.declared.record.LruList.{LruList}
 use Rattle.lru_lists.specs.declared.record.LruList.TheVariants.{Inactive, Active}
 use Rattle.lru_lists.specs.{link_at, entries_without, first_entry}
-use Rattle.step_rules.specs.State.{Part, State}
+use Rattle.step_rules.specs.State.{Part}
 use Rattle.step_rules.specs.After.{Run}
 use Rattle.boot_words.specs.Tables.{KnownTable}
 use Rattle.mem_machine.specs.declared.releasing.Released.{Released}
 use Rattle.mem_machine.specs.declared.releasing.Released.TheVariants.{Left, Returned}
-use Rattle.mem_machine.specs.{KnownMachine, IsConsistent, home_of, lists_of, part_at, with_run, Makes, StaysVisited, local_of, after_made, entries_in}
+use Rattle.mem_machine.specs.{KnownMachine, IsConsistent, home_of, lists_of, part_at, with_run, Makes, StaysVisited, entries_in}
 use Rattle.mem_machine.specs.{LeavesList, Releases, release_steps, Drain, drain_stocks_steps, kill_steps, drain_steps, AreOwnDrained, DrainsNoted}
 use Rattle.mem_machine.specs.{DrainsIf, DrainsAllIf, DrainsGroup, HasDrained, StockTest, of_group, stock_group, uncharged}
 use Rattle.boot_words.specs.Pasts.{IsHeld}
 use Rattle.mem_machine.proofs.Draining.{groups_stay}
 use Rattle.mem_machine.proofs.Falling.{current_falls}
-use Rattle.std.specs.List.{fold}
 use Rattle.std.proofs.lemmas.List.Folds.{list_any-append}
-use Rattle.std.proofs.lemmas.List.Sums.{fold-append}
-use Rattle.mem_reclaim.proofs.Grown.{held_after, hold_after, misses_after, missed_append, parts_after}
+use Rattle.mem_reclaim.proofs.Grown.{held_after, misses_after, missed_append, parts_after}
 use Rattle.group_charge.specs.Charges.{Ledger, current_of}
 use Rattle.step_rules.specs.declared.step.Step.{Step}
 use Rattle.step_rules.specs.declared.step.Answer.{Answer}
@@ -43,7 +42,6 @@ pub only_lets_none : (t : KnownTable) (m : KnownMachine) → OnlyReleases t m m
 only_lets_none t m = record {
   groups = refl;
   settings = refl;
-  hold = refl;
   usage = λ g. omega arith;
   visit = λ c v. v;
   leaves = λ f h is. is;
@@ -62,7 +60,6 @@ pub only_lets_both : (t : KnownTable) (a b c : KnownMachine) → OnlyReleases t 
 only_lets_both t a b c p q = record {
   groups = q.groups ∙ p.groups;
   settings = q.settings ∙ p.settings;
-  hold = q.hold ∙ p.hold;
   usage = λ g. let x = p.usage g in let y = q.usage g in omega (arith, x, y);
   visit = λ x v. q.visit x (p.visit x v);
   leaves = λ f h is. p.leaves f h (q.leaves f h is);
@@ -72,11 +69,10 @@ only_lets_both t a b c p q = record {
 
 -- ---- which steps these are
 
--- none of the steps is a kill, and none is a freeze that missed; all leave who holds the lock
+-- none of the steps is a kill, and none is a freeze that missed
 pub record AreQuiet (steps : Run) : Type 0 where
   pub no_kill : has_kill steps ≡ false
   pub no_miss : (f : ℕ) → missed_in f steps ≡ 0
-  pub hold : (s : State) → (fold after_made s steps).hold ≡ s.hold
 
 both_false : (a b : Bool) → a ≡ false → b ≡ false → (a || b) ≡ false
 both_false a b x y = rw x y
@@ -89,15 +85,14 @@ quiet_both one two p q = record {
       let y = q.no_miss f in
       let z = missed_append f one two in
       omega (arith, x, y, z);
-  hold = λ s. ap (λ (x : State). x.hold) (fold-append after_made s one two) ∙ q.hold (fold after_made s one) ∙ p.hold s;
 }
 
 pub quiet_none : AreQuiet []
-quiet_none = record { no_kill = refl; no_miss = λ f. refl; hold = λ s. refl }
+quiet_none = record { no_kill = refl; no_miss = λ f. refl }
 
 quiet_release : (f : ℕ) (left : Released) → AreQuiet (release_steps f left)
-quiet_release f (Left left) = record { no_kill = refl; no_miss = λ g. refl; hold = λ s. refl }
-quiet_release f Returned = record { no_kill = refl; no_miss = λ g. refl; hold = λ s. refl }
+quiet_release f (Left left) = record { no_kill = refl; no_miss = λ g. refl }
+quiet_release f Returned = record { no_kill = refl; no_miss = λ g. refl }
 
 quiet_units : (units : List Entry) (m : KnownMachine) (steps : Run) (n : KnownMachine) → ReleasesUnits units m steps n → AreQuiet steps
 quiet_units [] m steps n all = subst AreQuiet (sym all.1) quiet_none
@@ -106,9 +101,9 @@ quiet_units (u ∷ rest) m steps n all =
     (quiet_both (release_steps u.number all.left) all.later (quiet_release u.number all.left) (quiet_units rest all.between all.later n all.others))
 
 pub quiet_drain : (q : ℕ) (o : Option ℕ) (pages : ℕ) → AreQuiet (drain_steps q o pages)
-quiet_drain q None pages = record { no_kill = refl; no_miss = λ f. refl; hold = λ s. refl }
-quiet_drain q (Some g) zero = record { no_kill = refl; no_miss = λ f. refl; hold = λ s. refl }
-quiet_drain q (Some g) (suc n) = record { no_kill = refl; no_miss = λ f. refl; hold = λ s. refl }
+quiet_drain q None pages = record { no_kill = refl; no_miss = λ f. refl }
+quiet_drain q (Some g) zero = record { no_kill = refl; no_miss = λ f. refl }
+quiet_drain q (Some g) (suc n) = record { no_kill = refl; no_miss = λ f. refl }
 
 pub quiet_drains : (drains : List Drain) → AreQuiet (drain_stocks_steps drains)
 quiet_drains [] = quiet_none
@@ -117,20 +112,16 @@ quiet_drains (d ∷ rest) = quiet_both (drain_steps d.cpu d.group d.pages) (drai
 -- ---- what quiet steps leave
 
 module _ (t : KnownTable) (m : KnownMachine) (steps : Run) (n : KnownMachine) (runs : Makes t m steps n) (held : IsHeld t m.run.past) where
-  pub quiet_hold : ((s : State) → (fold after_made s steps).hold ≡ s.hold) → (local_of t n).hold ≡ (local_of t m).hold
-  quiet_hold same = hold_after t m steps n runs held (same (local_of t m))
-
   pub quiet_misses : ((f : ℕ) → missed_in f steps ≡ 0) → (f : ℕ) → misses_of n f ≡ misses_of m f
   quiet_misses none f = let a = misses_after t m steps n runs held f in let b = none f in omega (arith, a, b)
 
   -- the links stay
   pub only_lets_same : n.ledger.groups ≡ m.ledger.groups → n.ledger.settings ≡ m.ledger.settings → ((g : ℕ) → current_of n.ledger g ≤ current_of m.ledger g) → n.links ≡ m.links
-      → StaysVisited t m n → ((s : State) → (fold after_made s steps).hold ≡ s.hold) → ((f : ℕ) → missed_in f steps ≡ 0) → OnlyReleases t m n
-  only_lets_same groups settings usage links visit hold misses = record {
+      → StaysVisited t m n → ((f : ℕ) → missed_in f steps ≡ 0) → OnlyReleases t m n
+  only_lets_same groups settings usage links visit misses = record {
     groups = groups;
     settings = settings;
     usage = usage;
-    hold = quiet_hold hold;
     visit = visit;
     leaves = λ f h is. ap (λ (l : List Link). home_of l f) (sym links) ∙ is;
     dirt = λ f kept. ap (λ (l : List Link). (link_at l f).is_dirty) links;
@@ -140,15 +131,14 @@ module _ (t : KnownTable) (m : KnownMachine) (steps : Run) (n : KnownMachine) (r
 -- ---- one unit
 
 off_list : (t : KnownTable) (m n : KnownMachine) (f : ℕ) → LeavesList f (lists_of m) (lists_of n) → n.ledger.groups ≡ m.ledger.groups → n.ledger.settings ≡ m.ledger.settings
-    → ((g : ℕ) → current_of n.ledger g ≤ current_of m.ledger g) → (local_of t n).hold ≡ (local_of t m).hold → ((g : ℕ) → misses_of n g ≡ misses_of m g)
+    → ((g : ℕ) → current_of n.ledger g ≤ current_of m.ledger g) → ((g : ℕ) → misses_of n g ≡ misses_of m g)
     → StaysVisited t m n → OnlyReleases t m n
-off_list t m n f list groups settings usage hold misses visit =
+off_list t m n f list groups settings usage misses visit =
     let gone : home_of n.links f ≡ None = ap (λ (k : Link). k.home) list.forgotten in
     record {
       groups = groups;
       settings = settings;
       usage = usage;
-      hold = hold;
       visit = visit;
       leaves = λ x h home. elim (cases_eq x f) [
         | inl e ↦ absurd (none-some h (sym (ap (home_of n.links) e ∙ gone) ∙ home))
@@ -163,7 +153,6 @@ module _ (t : KnownTable) (m n : KnownMachine) (f : ℕ) (held : IsHeld t m.run.
   release_lets (Left left) is visit runs = off_list t m n f is.list (ap (λ (x : KnownMachine). x.ledger.groups) is.machine)
       (ap (λ (x : KnownMachine). x.ledger.settings) is.machine)
       (λ g. let e = ap (λ (x : KnownMachine). current_of x.ledger g) is.machine in omega (arith, e))
-      (quiet_hold t m (release_steps f (Left left)) n runs held (quiet_release f (Left left)).hold)
       (quiet_misses t m (release_steps f (Left left)) n runs held (quiet_release f (Left left)).no_miss) visit
   release_lets Returned is visit runs = off_list t m n f is.list (ap (λ (x : KnownMachine). x.ledger.groups) is.machine)
       (ap (λ (x : KnownMachine). x.ledger.settings) is.machine)
@@ -171,7 +160,6 @@ module _ (t : KnownTable) (m n : KnownMachine) (f : ℕ) (held : IsHeld t m.run.
       let e = ap (λ (x : KnownMachine). current_of x.ledger g) is.machine in
       let low = current_falls m.ledger (Some is.unit.group) (2 ^ is.unit.order) g in
       omega (arith, e, low))
-      (quiet_hold t m (release_steps f Returned) n runs held (quiet_release f Returned).hold)
       (quiet_misses t m (release_steps f Returned) n runs held (quiet_release f Returned).no_miss) visit
 
   release_stocks : (left : Released) → Releases f left m n → Makes t m (release_steps f left) n → KeepsStocks t m n
@@ -230,7 +218,7 @@ first_is (e ∷ es) u is = (es, ap (λ (x : Entry). x ∷ es) (same e u (sym is)
     same : (a b : Entry) → Some a ≡ Some b → a ≡ b
     same a b e = cc
 
-pub oldest_is : (t : KnownTable) (g : ℕ) → g < 64 → (list : LruList) (now : KnownMachine) → IsConsistent t now → (u : Entry)
+pub oldest_is : (t : KnownTable) (g : ℕ) → g < most_groups → (list : LruList) (now : KnownMachine) → IsConsistent t now → (u : Entry)
     → (oldest : Option Entry) → oldest ≡ first_entry (entries_in now g list) → oldest ≡ Some u → Oldest t g list now u
 oldest_is t g fits list now ok u oldest first some =
     let e = first_is (entries_in now g list) u (sym some ∙ first) in
@@ -401,18 +389,18 @@ pub record AllKilled (t : KnownTable) (v : ℕ) (m n : KnownMachine) : Type 0 wh
   pub stocks : OnlyDrains t m n
 
 -- no unit is on an empty list
-none_listed : (t : KnownTable) (m : KnownMachine) → IsConsistent t m → (v : ℕ) → v < 64 → (list : LruList) → entries_in m v list ≡ []
+none_listed : (t : KnownTable) (m : KnownMachine) → IsConsistent t m → (v : ℕ) → v < most_groups → (list : LruList) → entries_in m v list ≡ []
     → (f : ℕ) → home_of m.links f ≡ Some (record { owner = v; list = list }) → ⊥
 none_listed t m ok v fits list empty f home =
     false≢true (sym (ap (has_unit f) empty) ∙ (listed_is t m ok v fits list).at_home f home)
 
-keeps_none_of : (t : KnownTable) (b n : KnownMachine) → IsConsistent t b → IsConsistent t n → (v : ℕ) → v < 64
+keeps_none_of : (t : KnownTable) (b n : KnownMachine) → IsConsistent t b → IsConsistent t n → (v : ℕ) → v < most_groups
     → entries_in b v Inactive ≡ [] → entries_in n v Active ≡ [] → OnlyLeave b n → (f : ℕ) (list : LruList)
     → home_of n.links f ≡ Some (record { owner = v; list = list }) → ⊥
 keeps_none_of t b n ok_b ok_n v fits first last leaves f Inactive home = none_listed t b ok_b v fits Inactive first f (leaves f _ home)
 keeps_none_of t b n ok_b ok_n v fits first last leaves f Active home = none_listed t n ok_n v fits Active last f home
 
-pub all_killed : (t : KnownTable) (v : ℕ) → v < 64 → (m a d b n : KnownMachine) → a ≡ with_run (with_killed m v) a.run
+pub all_killed : (t : KnownTable) (v : ℕ) → v < most_groups → (m a d b n : KnownMachine) → a ≡ with_run (with_killed m v) a.run
     → ((g : ℕ) → current_of a.ledger g ≡ current_of m.ledger g) → Makes t m (kill_steps v) a → StaysVisited t m a → IsHeld t m.run.past
     → (pages : ℕ) → DrainsGroup t v pages a d → AreOwnDrained t v d → StaysVisited t a d
     → ReleasesUnitsBySteps t (entries_in d v Inactive) d b → entries_in b v Inactive ≡ [] → OnlyReleases t d b → KeepsStocks t d b → IsConsistent t b
@@ -424,10 +412,10 @@ all_killed t v fits m a d b n is usage killed visit_killed held pages drains dra
     let kept : (p : ℕ) → part_at t a p ≡ part_at t m p = λ p. parts_after t m (kill_steps v) a killed held p refl in
     let marks : (p : ℕ) → stock_group t a p ≡ stock_group t m p = λ p. ap (λ (x : Part). x.stock.group) (kept p) in
     let at_first : OnlyReleases t m a = only_lets_same t m (kill_steps v) a killed held (ap (λ (x : KnownMachine). x.ledger.groups) is)
-    (ap (λ (x : KnownMachine). x.ledger.settings) is) (λ g. let e = usage g in omega (arith, e)) (ap (λ (x : KnownMachine). x.links) is) visit_killed (λ s. refl) (λ f. refl) in
+    (ap (λ (x : KnownMachine). x.ledger.settings) is) (λ g. let e = usage g in omega (arith, e)) (ap (λ (x : KnownMachine). x.links) is) visit_killed (λ f. refl) in
     let quiet_first = quiet_drains drains.drains in
     let at_drain : OnlyReleases t a d = only_lets_same t a (drain_stocks_steps drains.drains) d drains.steps (held_after t m (kill_steps v) a killed held)
-    unit.groups unit.settings unit.usage unit.links visit_drained quiet_first.hold quiet_first.no_miss in
+    unit.groups unit.settings unit.usage unit.links visit_drained quiet_first.no_miss in
     let later : Run = drain_stocks_steps drains.drains ++ (first.steps ++ last.steps) in
     let quiet : AreQuiet later = quiet_both (drain_stocks_steps drains.drains) (first.steps ++ last.steps) (quiet_drains drains.drains)
     (quiet_both first.steps last.steps (quiet_units (entries_in d v Inactive) d first.steps b first.releases)

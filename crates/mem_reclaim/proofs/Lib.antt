@@ -4,7 +4,6 @@ pub mod Keeping
 pub mod Grown
 pub mod Meeting
 pub mod Scanning
-pub mod Members
 pub mod Passing
 pub mod Rounding
 pub mod Choosing

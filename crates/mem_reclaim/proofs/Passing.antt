@@ -1,21 +1,21 @@
 -- Passes over a group and over the groups of a subtree. Serves all of `passes` and `reclaiming`.
 use Rattle.std.proofs.Common.{◌≡◌, ◌≢◌, ℕ, ◌+◌, ◌-◌, ◌<◌, ◌≤◌, ◌==◌, ◌&&◌, Bool, true, false, List, [], ◌∷◌, ◌++◌, cond}
-use Rattle.std.proofs.Common.{refl, sym, ap, ◌∙◌, subst, inl, inr, arith, nat_lt}
-use Rattle.std.specs.Prelude.{Option, Some, None, min, option_map}
-use Rattle.std.specs.Int.{bit_at}
+use Rattle.std.proofs.Common.{refl, sym, ap, ◌∙◌, subst, inl, inr, arith, nat_lt, suc}
+use Rattle.std.specs.Prelude.{Option, Some, None, filter, min, option_map}
+use Rattle.std.specs.List.{range_with_len}
 use Rattle.std.proofs.lemmas.Bool.{cases_eq, cases_lt, cond-false, cond-true, eq-eqb, false≢true, ne_eqb, not-true}
-use Rattle.std.proofs.lemmas.Nat.Bits.{bit_at-zero}
 use Rattle.std.proofs.lemmas.Option.{none-some}
 use Rattle.boot_words.specs.Pasts.{IsHeld}
 use Rattle.group_tree.specs.declared.event.EventKey.TheVariants as event
 use Rattle.group_tree.specs.declared.group.Group.{Group}
+use Rattle.group_tree.specs.Bounds.{most_groups}
 use Rattle.group_tree.specs.Groups.{AreGroups, in_subtree}
 use Rattle.group_tree.proofs.CallerLemmas.{in_subtree-below}
 use Rattle.group_charge.specs.declared.settings.ReclaimSettings.{ReclaimSettings}
 use Rattle.group_charge.specs.Charges.{Ledger, are_protecting, current_of, with_noted}
 use Rattle.group_charge.specs.declared.note.Note.{Note}
 use Rattle.group_charge.specs.declared.note.Note.TheVariants as note
-use Rattle.group_charge.proofs.KeptLemmas.{number_below}
+use Rattle.group_tree.proofs.CallerLemmas.{number_below}
 use Rattle.group_charge.proofs.UsageLemmas.{usage-noted}
 use Rattle.group_protection.specs.Protections.{effective, low_key, min_key}
 use Rattle.group_protection.proofs.Effective.{nothing_set}
@@ -31,19 +31,17 @@ use Rattle.mem_machine.specs.Clean.{clean_pages}
 use Rattle.mem_machine.specs.Noted.{KnownRun}
 use Rattle.mem_machine.specs.Ageing.{AgesGroup}
 use Rattle.mem_machine.specs.Steps.{note_steps}
-use Rattle.mem_machine.specs.Subtrees.{IsSubtree}
 use Rattle.mem_reclaim.specs.Wanted.{WhileWanted, progress}
 use Rattle.mem_reclaim.specs.Moves.{FreesPages, FreesBySteps}
 use Rattle.mem_reclaim.specs.Units.{ScansList}
 use Rattle.mem_reclaim.specs.declared.passes.Pass.{Pass}
 use Rattle.mem_reclaim.specs.declared.passes.Pass.TheVariants.{First, Second, Third}
 use Rattle.mem_reclaim.specs.Passes.{AgesAndScans, MakesPasses, NotesLowIf, PassesGroup, ReclaimsGroup, ReclaimsPass, TakesTurn, TakesTurnOf, is_first, is_last}
-use Rattle.mem_reclaim.specs.Passes.{AreInSubtree, members_of, notes_spared, passes_of, spared_by, subtree_of}
+use Rattle.mem_reclaim.specs.Passes.{notes_spared, passes_of, spared_by, subtree_of}
 use Rattle.mem_reclaim.specs.Shares.{TakesItsShare, part_of}
 use Rattle.mem_reclaim.specs.Passes.{turn_want, with_detail_if}
-use Rattle.mem_reclaim.specs.Staying.{AreMissedOrKept, Keeps, OnlyLeave, IsMissed, MissedAll, MissedOfGroup, MissedOrKept, UsageFalls}
-use Rattle.mem_reclaim.proofs.Grown.{hold_after, misses_after, parts_after}
-use Rattle.mem_reclaim.proofs.Members.{first_taken, members, no_members, same_members}
+use Rattle.mem_reclaim.specs.Staying.{Keeps, OnlyLeave, IsMissed, MissedAll, MissedOfGroup, MissedOrKept, UsageFalls}
+use Rattle.mem_reclaim.proofs.Grown.{misses_after, parts_after}
 use Rattle.mem_reclaim.proofs.Wanting.{SoFar, so_far_none, so_far_more, so_far_done, so_far_enough}
 use Rattle.mem_reclaim.proofs.Moving.{moves_after_notes, moves_both, moves_none, moves_noted, moves_rest}
 use Rattle.mem_reclaim.proofs.Rising.{rises_none}
@@ -144,7 +142,6 @@ module _ (t : KnownTable) (of_min of_low usage g want freed : ℕ) (m x : KnownM
       killed = refl;
       groups = refl;
       settings = refl;
-      hold = hold_after t x (note_steps key.Low g) (low_noted x g w) runs held refl;
       usage = λ h. let e = same_usage h in omega (arith, e);
       visit = visit;
       dirty = λ f is. record { kept = is.kept; dirty = is.dirty };
@@ -338,118 +335,107 @@ pub shares_first : {A : Type 0} (f : A → ℕ → ℕ) (o : Option A) (first : 
 shares_first f None first given some = absurd (some refl)
 shares_first f (Some x) first given some = given (λ none. none-some x (sym none))
 
--- the groups before those that are left had their turn; `all` are those of the pass
-pub record PassSoFar (t : KnownTable) (shares : Option (ℕ → ℕ)) (pass : Pass) (g want : ℕ) (m : KnownMachine) (all rest freed : ℕ) (now : KnownMachine) : Type 0 where
-  pub so_far : SoFar t (TakesItsShare shares pass g) (members_of all) want m (members rest 0 64) freed now
-  pub left : (k : ℕ) → k < 64 → bit_at rest k ≡ 1 → in_subtree m.ledger.groups g k ≡ true
+-- the groups of the subtree from this number on
+abbrev pub groups_from : List Group → (g k : ℕ) → List ℕ
+groups_from groups g k = filter (in_subtree groups g) (range_with_len k (most_groups - k))
+
+next_group : (groups : List Group) (g k : ℕ) → k < most_groups
+    → groups_from groups g k ≡ cond (in_subtree groups g k) (k ∷ groups_from groups g (k + 1)) (groups_from groups g (k + 1))
+next_group groups g k low =
+    let e : most_groups - k ≡ suc (most_groups - (k + 1)) = omega (arith, low) in
+    ap (λ n. filter (in_subtree groups g) (range_with_len k n)) e
+
+-- the groups of lesser numbers had their turn
+pub record PassSoFar (t : KnownTable) (shares : Option (ℕ → ℕ)) (pass : Pass) (g want : ℕ) (m : KnownMachine) (k freed : ℕ) (now : KnownMachine) : Type 0 where
+  pub so_far : SoFar t (TakesItsShare shares pass g) (subtree_of m.ledger.groups g) want m (groups_from m.ledger.groups g k) freed now
   pub keeps : Keeps t m now
   pub usage : current_of now.ledger g + freed ≡ current_of m.ledger g
   pub few : freed < want + 1024
   pub leaves : is_first pass ≡ false → OnlyLeave m now
-  pub tried : is_last pass m.ledger.settings ≡ true → freed < want → (other : ℕ) → other < 64 → bit_at all other ≡ 1 → bit_at rest other ≢ 1
+  pub tried : is_last pass m.ledger.settings ≡ true → freed < want → (other : ℕ) → other < k → in_subtree m.ledger.groups g other ≡ true
       → MissedOrKept g other m now
 
-pub pass_none : (t : KnownTable) (shares : Option (ℕ → ℕ)) (pass : Pass) (g want : ℕ) (m : KnownMachine) (groups : ℕ) → AreInSubtree m.ledger.groups g groups → PassSoFar t shares pass g want m groups groups 0 m
-pass_none t shares pass g want m groups inside = record {
-  so_far = so_far_none t (TakesItsShare shares pass g) (members_of groups) want m;
-  left = inside;
+pub pass_none : (t : KnownTable) (shares : Option (ℕ → ℕ)) (pass : Pass) (g want : ℕ) (m : KnownMachine) → PassSoFar t shares pass g want m 0 0 m
+unfolding subtree_of
+pass_none t shares pass g want m = record {
+  so_far = so_far_none t (TakesItsShare shares pass g) (groups_from m.ledger.groups g 0) want m;
   keeps = keeps_none t m;
   usage = omega arith;
   few = omega arith;
   leaves = λ off f h home. home;
-  tried = λ last less other low there away. absurd (away there);
+  tried = λ last less other low inside. absurd (omega (arith, low));
 }
 
-pub record PassEnds (t : KnownTable) (shares : Option (ℕ → ℕ)) (pass : Pass) (g want : ℕ) (m : KnownMachine) (all freed : ℕ) (now : KnownMachine) : Type 0 where
-  pub passes : FreesBySteps t freed m now (WhileWanted (TakesItsShare shares pass g) (members_of all) want)
-  pub tried : is_last pass m.ledger.settings ≡ true → freed < want → AreMissedOrKept g all m now
+module _ (t : KnownTable) (shares : Option (ℕ → ℕ)) (pass : Pass) (g want : ℕ) (m : KnownMachine) (k freed : ℕ) (now : KnownMachine)
+    (s : PassSoFar t shares pass g want m k freed now) where
+  -- the same group in the tree as it is now
+  as_first : (inside : Bool) (turn : ℕ) → turn ≡ k → in_subtree now.ledger.groups g turn ≡ inside → in_subtree m.ledger.groups g k ≡ inside
+  as_first inside turn at is = (λ i. in_subtree (sym s.keeps.groups i) g (sym at i)) ∙ is
 
-module _ (t : KnownTable) (shares : Option (ℕ → ℕ)) (pass : Pass) (g want : ℕ) (m : KnownMachine) (all rest freed : ℕ) (now : KnownMachine)
-    (s : PassSoFar t shares pass g want m all rest freed now) where
-  -- the next group is in the subtree
-  pub turn_inside : (turn k : ℕ) → turn ≡ k → k < 64 → bit_at rest k ≡ 1 → in_subtree now.ledger.groups g turn ≡ true
-  turn_inside turn k at low here = (λ i. in_subtree (s.keeps.groups i) g (at i)) ∙ s.left k low here
+  pub pass_skips : (turn : ℕ) → turn ≡ k → k < most_groups → in_subtree now.ledger.groups g turn ≡ false → PassSoFar t shares pass g want m (k + 1) freed now
+  pass_skips turn at low away =
+      let out = as_first false turn at away in
+      record {
+        so_far = subst (λ (l : List ℕ). SoFar t (TakesItsShare shares pass g) (subtree_of m.ledger.groups g) want m l freed now)
+            (next_group m.ledger.groups g k low ∙ cond-false (in_subtree m.ledger.groups g k) _ _ out) s.so_far;
+        keeps = s.keeps;
+        usage = s.usage;
+        few = s.few;
+        leaves = s.leaves;
+        tried = λ last less other before inside. elim (cases_eq other k) [
+          | inl e ↦ absurd (false≢true (sym out ∙ ap (in_subtree m.ledger.groups g) (sym e) ∙ inside))
+          | inr ne ↦ s.tried last less other (omega (arith, before, ne)) inside
+        ];
+      }
 
-  pub pass_more : (shares ≢ None → is_first pass ≡ true) → freed < want → (turn k : ℕ) → turn ≡ k → (k < 64) × (bit_at rest k ≡ 1) × ((i : ℕ) → i < k → bit_at rest i ≡ 0)
-      → (left : ℕ) → (bit_at left k ≡ 0) × (left < rest) × ((i : ℕ) → i < 64 → i ≢ k → bit_at left i ≡ bit_at rest i)
+  pub pass_more : (shares ≢ None → is_first pass ≡ true) → freed < want → (turn : ℕ) → turn ≡ k → k < most_groups → in_subtree now.ledger.groups g turn ≡ true
       → (part some : ℕ) (then : KnownMachine) → part ≡ part_of shares turn (want - freed) → FreesBySteps t some now then (TakesTurn pass g turn part)
       → Keeps t now then → UsageFalls turn some now then → some < part + 1024 → (is_first pass ≡ false → OnlyLeave now then)
-      → (is_last pass now.ledger.settings ≡ true → some < part → MissedOrKept g turn now then) → PassSoFar t shares pass g want m all left (freed + some) then
-  pass_more first wanted turn k at found left taken part some then part_is leads keeps usage few leaves tried =
-      let inside = turn_inside turn k at found.0 found.1 in
+      → (is_last pass now.ledger.settings ≡ true → some < part → MissedOrKept g turn now then) → PassSoFar t shares pass g want m (k + 1) (freed + some) then
+  pass_more first wanted turn at low inside part some then part_is leads keeps usage few leaves tried =
+      let here = as_first true turn at inside in
+      let later = groups_from m.ledger.groups g (k + 1) in
       record {
-        so_far = so_far_more t (TakesItsShare shares pass g) (members_of all) want m turn (members left 0 64) freed now
-            (subst (λ (l : List ℕ). SoFar t (TakesItsShare shares pass g) (members_of all) want m l freed now)
-            (first_taken rest left k 0 64 (omega arith) found.0 (omega arith) found.1 found.2 taken.0 taken.2 ∙ ap (λ (x : ℕ). x ∷ members left 0 64) (sym at)) s.so_far) wanted some then (subst (λ (x : ℕ). FreesBySteps t some now then (TakesTurn pass g turn x)) part_is leads);
-        left = λ i low one. elim (cases_eq i k) [
-          | inl e ↦ absurd (let zero_bit = taken.0 in let one' : bit_at left k ≡ 1 = ap (bit_at left) (sym e) ∙ one in omega (arith, zero_bit, one'))
-          | inr ne ↦ s.left i low (sym (taken.2 i low ne) ∙ one)
-        ];
+        so_far = so_far_more t (TakesItsShare shares pass g) (subtree_of m.ledger.groups g) want m turn later freed now
+            (subst (λ (l : List ℕ). SoFar t (TakesItsShare shares pass g) (subtree_of m.ledger.groups g) want m l freed now)
+            (next_group m.ledger.groups g k low ∙ cond-true (in_subtree m.ledger.groups g k) (k ∷ later) later here ∙ ap (λ (x : ℕ). x ∷ later) (sym at)) s.so_far) wanted some then
+            (subst (λ (x : ℕ). FreesBySteps t some now then (TakesTurn pass g turn x)) part_is leads);
         keeps = keeps_both t m now then s.keeps keeps;
         usage = let a = s.usage in let b = usage g inside in omega (arith, a, b);
         few = let most = part_few shares turn (want - freed) in omega (arith, wanted, few, part_is, most);
         leaves = λ off. only_both m now then (s.leaves off) (leaves off);
-        tried = λ last less other low there away. elim (cases_eq other k) [
+        tried = λ last less other before inside_too. elim (cases_eq other k) [
           | inl e ↦
               tried_still t g other m now then then s.keeps (keeps_none t then) (λ x y home. home)
               (subst (λ (x : ℕ). MissedOrKept g x now then) (at ∙ sym e) (tried (ap (is_last pass) s.keeps.settings ∙ last)
               (let all_of_it = part_all shares pass m.ledger.settings turn (want - freed) first last in omega (arith, less, wanted, part_is, all_of_it))))
           | inr ne ↦
               tried_still t g other m m now then (keeps_none t m) keeps (leaves (last_not_first pass m.ledger.settings last))
-              (s.tried last (omega (arith, less)) other low there (λ one. away (taken.2 other low ne ∙ one)))
+              (s.tried last (omega (arith, less)) other (omega (arith, before, ne)) inside_too)
         ];
       }
 
-  pub pass_enough : want ≤ freed → PassEnds t shares pass g want m all freed now
-  pass_enough enough = record {
-    passes = so_far_enough t (TakesItsShare shares pass g) (members_of all) want m (members rest 0 64) freed now s.so_far enough;
-    tried = λ last less. absurd (omega (arith, less, enough));
-  }
+  pub pass_enough : want ≤ freed → FreesBySteps t freed m now (WhileWanted (TakesItsShare shares pass g) (subtree_of m.ledger.groups g) want)
+  pass_enough enough = so_far_enough t (TakesItsShare shares pass g) (subtree_of m.ledger.groups g) want m (groups_from m.ledger.groups g k) freed now s.so_far enough
 
-  pub pass_done : rest ≡ 0 → PassEnds t shares pass g want m all freed now
-  pass_done all_taken =
-      let none : (i : ℕ) → bit_at rest i ≡ 0 = λ i. ap (λ (x : ℕ). bit_at x i) all_taken ∙ bit_at-zero i in
-      record {
-        passes = so_far_done t (TakesItsShare shares pass g) (members_of all) want m freed now
-            (subst (λ (l : List ℕ). SoFar t (TakesItsShare shares pass g) (members_of all) want m l freed now) (no_members rest 0 64 none) s.so_far);
-        tried = λ last less other low there. s.tried last less other low there (λ one. let zero_bit = none other in absurd (omega (arith, one, zero_bit)));
-      }
+  pub pass_done : most_groups ≤ k → FreesBySteps t freed m now (WhileWanted (TakesItsShare shares pass g) (subtree_of m.ledger.groups g) want)
+  pass_done past =
+      let none : most_groups - k ≡ 0 = omega (arith, past) in
+      so_far_done t (TakesItsShare shares pass g) (subtree_of m.ledger.groups g) want m freed now
+      (subst (λ (l : List ℕ). SoFar t (TakesItsShare shares pass g) (subtree_of m.ledger.groups g) want m l freed now)
+      (ap (λ n. filter (in_subtree m.ledger.groups g) (range_with_len k n)) none) s.so_far)
 
--- ---- the groups of a pass
-
-members_subtree : (groups : List Group) (g all : ℕ) → IsSubtree groups g all → members_of all ≡ subtree_of groups g
-unfolding subtree_of
-members_subtree groups g all are = sym (same_members all (in_subtree groups g) 0 64 (λ k from low. are k low))
-
--- the members of the set are those of the subtree
-pub of_subtree : (t : KnownTable) (shares : Option (ℕ → ℕ)) (pass : Pass) (g want freed all : ℕ) (m n : KnownMachine) → IsSubtree m.ledger.groups g all
-    → FreesBySteps t freed m n (WhileWanted (TakesItsShare shares pass g) (members_of all) want)
-    → FreesBySteps t freed m n (WhileWanted (TakesItsShare shares pass g) (subtree_of m.ledger.groups g) want)
-of_subtree t shares pass g want freed all m n are leads = record {
-  steps = leads.steps;
-  does = subst (λ (l : List ℕ). WhileWanted (TakesItsShare shares pass g) l want (progress freed m leads.steps n)) (members_subtree m.ledger.groups g all are) leads.does;
-  moves = leads.moves;
-}
+  -- each group of the subtree had its turn
+  pub all_tried : AreGroups m.ledger.groups → most_groups ≤ k → is_last pass m.ledger.settings ≡ true → freed < want → MissedAll g m now
+  all_tried facts past last less other inside =
+      let there : in_subtree m.ledger.groups g other ≡ true = ap (λ (l : List Group). in_subtree l g other) (sym s.keeps.groups) ∙ inside in
+      let low = number_below m.ledger.groups other facts (in_subtree-below m.ledger.groups g other there) in
+      s.tried last less other (omega (arith, low, past)) there
 
 -- without shares it is a pass of the reclaim
 pub as_pass : (t : KnownTable) (pass : Pass) (g want freed : ℕ) (m n : KnownMachine)
     → FreesBySteps t freed m n (WhileWanted (TakesItsShare None pass g) (subtree_of m.ledger.groups g) want) → FreesBySteps t freed m n (ReclaimsPass g pass want)
 as_pass t pass g want freed m n leads = record { steps = leads.steps; does = leads.does; moves = leads.moves }
-
--- the bit of a group of the subtree
-bit_there : (t : KnownTable) (g all other : ℕ) (m n : KnownMachine) → AreGroups m.ledger.groups → IsSubtree m.ledger.groups g all → Keeps t m n
-    → in_subtree n.ledger.groups g other ≡ true → (other < 64) × (bit_at all other ≡ 1)
-bit_there t g all other m n facts are keeps inside =
-    let there : in_subtree m.ledger.groups g other ≡ true = ap (λ (l : List Group). in_subtree l g other) (sym keeps.groups) ∙ inside in
-    let fits = number_below m.ledger.groups other facts (in_subtree-below m.ledger.groups g other there) in
-    (fits, (are other fits).1 there)
-
--- each group of the subtree had its turn
-pub all_tried : (t : KnownTable) (g all : ℕ) (m n : KnownMachine) → AreGroups m.ledger.groups → IsSubtree m.ledger.groups g all → Keeps t m n
-    → AreMissedOrKept g all m n → MissedAll g m n
-all_tried t g all m n facts are keeps tried other inside =
-    let there = bit_there t g all other m n facts are keeps inside in
-    tried other there.0 there.1
 
 -- ---- all passes
 

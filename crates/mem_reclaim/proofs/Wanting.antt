@@ -1,10 +1,9 @@
 -- Things done one after the other, as far as they were done. Serves all loops.
-use Rattle.std.proofs.Common.{◌≡◌, ℕ, ◌+◌, ◌-◌, ◌<◌, ◌≤◌, List, [], ◌∷◌, ◌++◌, refl, sym, ◌∙◌, subst, inl, inr, arith}
+use Rattle.std.proofs.Common.{◌≡◌, ℕ, ◌+◌, ◌-◌, ◌<◌, ◌≤◌, List, [], ◌∷◌, ◌++◌, refl, sym, subst, inl, inr, arith}
 use Rattle.std.proofs.lemmas.List.{append_assoc, append-nil}
 use Rattle.step_rules.specs.After.{Run}
 use Rattle.boot_words.specs.Tables.{KnownTable}
 use Rattle.mem_machine.specs.Machines.{KnownMachine}
-use Rattle.mem_reclaim.specs.Wanted.{Progress}
 use Rattle.mem_reclaim.specs.{FreesNothing, Reclaiming, WhileWanted, progress, FreesPages, FreesBySteps}
 use Rattle.mem_reclaim.proofs.Moving.{moves_rest, moves_both}
 
@@ -83,72 +82,6 @@ module _ {A : Type 0} (t : KnownTable) (does : A → ℕ → Reclaiming) (all : 
   so_far_enough todo freed now so enough = ended todo freed now so (left_alone todo freed now enough)
 
 -- ---- the things of a list, and then those of another
-
-none_wanted : {A : Type 0} (does : A → ℕ → Reclaiming) (todo : List A) (want : ℕ) (done : Progress) → want ≡ 0 → WhileWanted does todo want done → FreesNothing done
-none_wanted does [] want done none h = h
-none_wanted does (x ∷ later) want done none (inl h) = h.1
-none_wanted does (x ∷ later) want done none (inr h) = let some = h.0 in absurd (omega (arith, some, none))
-
-both_nothing : (m k n : KnownMachine) (some more : ℕ) (one two : Run) → FreesNothing (progress some m one k) → FreesNothing (progress more k two n)
-    → FreesNothing (progress (some + more) m (one ++ two) n)
-both_nothing m k n some more one two a b =
-    let x = a.no_page in
-    let y = b.no_page in
-    record {
-      no_page = omega (arith, x, y);
-      machine = b.machine ∙ a.machine;
-      no_step = (λ i. a.no_step i ++ b.no_step i);
-    }
-
-while_both : {A : Type 0} (does : A → ℕ → Reclaiming) (xs ys : List A) (want : ℕ) (m k n : KnownMachine) (some more : ℕ) (one two : Run)
-    → WhileWanted does xs want (progress some m one k) → WhileWanted does ys (want - some) (progress more k two n)
-    → WhileWanted does (xs ++ ys) want (progress (some + more) m (one ++ two) n)
-while_both does [] ys want m k n some more one two h next =
-    let none = h.no_page in
-    let wants : want - some ≡ want = omega (arith, none) in
-    let frees : more ≡ some + more = omega (arith, none) in
-    subst (λ (y : (ℕ × ℕ) × (KnownMachine × Run)). WhileWanted does ys y.0.0 (progress y.0.1 y.1.0 y.1.1 n))
-    (λ i. ((wants i, frees i), (h.machine i, sym h.no_step i ++ two))) next
-while_both does (x ∷ xs) ys want m k n some more one two (inl h) next =
-    let none = h.0 in
-    inl (none, both_nothing m k n some more one two h.1 (none_wanted does ys (want - some) (progress more k two n) (omega (arith, none)) next))
-while_both does (x ∷ xs) ys want m k n some more one two (inr h) next =
-    let both = h.1 in
-    let is = both.freed_is in
-    let wants : want - some ≡ want - both.some - both.more = omega (arith, is) in
-    inr (
-      h.0,
-      record {
-        between = both.between;
-        earlier = both.earlier;
-        later = both.later ++ two;
-        some = both.some;
-        more = both.more + more;
-        first = both.first;
-        second = while_both does xs ys (want - both.some) both.between k n both.more more both.later two both.second
-            (subst (λ (w : ℕ). WhileWanted does ys w (progress more k two n)) wants next);
-        freed_is = omega (arith, is);
-        steps_are = (λ i. both.steps_are i ++ two) ∙ append_assoc both.earlier both.later two;
-      },
-    )
-
-pub frees_both : {A : Type 0} (t : KnownTable) (does : A → ℕ → Reclaiming) (xs ys : List A) (want : ℕ) (m k n : KnownMachine) (some more : ℕ)
-    → FreesBySteps t some m k (WhileWanted does xs want) → FreesBySteps t more k n (WhileWanted does ys (want - some))
-    → FreesBySteps t (some + more) m n (WhileWanted does (xs ++ ys) want)
-frees_both t does xs ys want m k n some more first second = record {
-  steps = first.steps ++ second.steps;
-  does = while_both does xs ys want m k n some more first.steps second.steps first.does second.does;
-  moves = moves_both t m k n some more first.steps second.steps first.moves second.moves;
-}
-
--- the things of the first list gave enough
-pub frees_first : {A : Type 0} (t : KnownTable) (does : A → ℕ → Reclaiming) (xs ys : List A) (want : ℕ) (m k : KnownMachine) (some : ℕ) → want ≤ some
-    → FreesBySteps t some m k (WhileWanted does xs want) → FreesBySteps t some m k (WhileWanted does (xs ++ ys) want)
-frees_first t does xs ys want m k some enough first =
-    let e : some + 0 ≡ some = omega arith in
-    subst (λ (x : ℕ). FreesBySteps t x m k (WhileWanted does (xs ++ ys) want)) e
-    (frees_both t does xs ys want m k k some 0 first
-    (record { steps = []; does = left_alone t does ys want m ys some k enough; moves = moves_rest t k }))
 
 -- ---- a first thing, a second and a third
 

@@ -12,7 +12,7 @@ use Rattle.mem_machine.specs.declared.releasing.Released.{Released}
 use Rattle.group_charge.specs.declared.note.Note.{Note}
 use Rattle.group_charge.specs.declared.note.Note.TheVariants as note
 use Rattle.mem_machine.specs.{KnownRun, HeadsKeptUnit, KnownMachine, active_in, home_of, inactive_in, part_at, with_run, Makes, StaysVisited}
-use Rattle.mem_machine.specs.{local_of, with_note, Releases, release_steps, Drain, drain_stocks_steps, kill_steps, note_group_kill_steps, DrainsAllIf}
+use Rattle.mem_machine.specs.{with_note, Releases, release_steps, Drain, drain_stocks_steps, kill_steps, note_group_kill_steps, DrainsAllIf}
 use Rattle.mem_machine.specs.{IsDrained, of_group, stock_group}
 use Rattle.mem_reclaim.specs.Moves.{Rises, has_kill, kills_in, missed_in, misses_of, returned_in}
 use Rattle.mem_reclaim.specs.declared.noting.CountsBeforeKill.{CountsBeforeKill}
@@ -193,7 +193,6 @@ with_all_killed marks groups = fold (λ (old : List Bool) (group : ℕ). slice_s
 pub record OnlyReleases (table : KnownTable) (before after : KnownMachine) : Type 0 where
   pub groups : after.ledger.groups ≡ before.ledger.groups
   pub settings : after.ledger.settings ≡ before.ledger.settings
-  pub hold : (local_of table after).hold ≡ (local_of table before).hold
   pub usage : (group : ℕ) → current_of after.ledger group ≤ current_of before.ledger group
   pub visit : StaysVisited table before after
   pub leaves : OnlyLeave before after

@@ -1,7 +1,6 @@
 -- Reclaim in passes over the groups of a subtree, by ascending number.
-use Rattle.std.specs.Prelude.{◌≡◌, ℕ, ◌-◌, ◌<◌, ◌≤◌, ◌==◌, ◌&&◌, ◌⊎◌, Bool, true, false, not, min, max, nat_lt, if◌then◌else◌}
+use Rattle.std.specs.Prelude.{◌≡◌, ℕ, ◌-◌, ◌≤◌, ◌==◌, ◌&&◌, ◌⊎◌, Bool, true, false, not, min, max, nat_lt, if◌then◌else◌}
 use Rattle.std.specs.Prelude.{List, [], ◌∷◌, ◌++◌, filter}
-use Rattle.std.specs.Int.{bit_at}
 use Rattle.std.specs.List.{range_with_len}
 use Rattle.group_tree.specs.{most_groups, in_subtree}
 use Rattle.group_tree.specs.declared.event.EventKey.TheVariants as event
@@ -113,15 +112,6 @@ TakesTurn pass target group want done =
 -- the groups of the subtree, by ascending number
 unfoldable pub subtree_of : List Group → ℕ → List ℕ
 subtree_of groups group = filter (in_subtree groups group) (range_with_len 0 most_groups)
-
--- the members of a set of numbers that is one word, by ascending number
-abbrev pub members_of : (word : ℕ) → List ℕ
-members_of word = filter (λ number. bit_at word number == 1) (range_with_len 0 most_groups)
-
--- the members of the set are groups of the subtree
-abbrev pub AreInSubtree : List Group → (group word : ℕ) → Type 0
-AreInSubtree groups group word =
-    (number : ℕ) → number < most_groups → bit_at word number ≡ 1 → in_subtree groups group number ≡ true
 
 -- one pass over the groups of the subtree, by ascending number
 abbrev pub ReclaimsPass : (target : ℕ) → Pass → ℕ → Reclaiming

@@ -1,7 +1,6 @@
 -- What each reclaim keeps, and what it tried.
 use Rattle.std.specs.Prelude.{◌≡◌, ◌≢◌, ℕ, ◌+◌, ◌<◌, ◌≤◌, ◌⊎◌, true, false, Some, None, List}
-use Rattle.std.specs.Int.{bit_at}
-use Rattle.group_tree.specs.{most_groups, in_subtree}
+use Rattle.group_tree.specs.{in_subtree}
 use Rattle.group_charge.specs.Charges.{current_of}
 use Rattle.group_protection.specs.Protections.{IsKeptByMin}
 use Rattle.lru_lists.specs.declared.record.Link.{Link}
@@ -9,7 +8,7 @@ use Rattle.lru_lists.specs.declared.record.Home.{Home}
 use Rattle.lru_lists.specs.declared.record.LruList.{LruList}
 use Rattle.lru_lists.specs.{link_at, owner_of}
 use Rattle.boot_words.specs.Tables.{KnownTable}
-use Rattle.mem_machine.specs.{HeadsKeptUnit, KnownMachine, home_of, part_at, StaysVisited, local_of}
+use Rattle.mem_machine.specs.{HeadsKeptUnit, KnownMachine, home_of, part_at, StaysVisited}
 use Rattle.mem_reclaim.specs.Moves.{misses_of}
 
 -- the frame heads a kept unit that is dirty
@@ -25,7 +24,6 @@ pub record Keeps (table : KnownTable) (before after : KnownMachine) : Type 0 whe
   pub killed : after.killed ≡ before.killed
   pub groups : after.ledger.groups ≡ before.ledger.groups
   pub settings : after.ledger.settings ≡ before.ledger.settings
-  pub hold : (local_of table after).hold ≡ (local_of table before).hold
   pub usage : (group : ℕ) → current_of after.ledger group ≤ current_of before.ledger group
   pub visit : StaysVisited table before after
   pub dirty : (frame : ℕ) → IsDirtyUnit before.links frame → IsDirtyUnit after.links frame
@@ -72,8 +70,3 @@ MissedOrKept limited group before after =
 abbrev pub MissedAll : ℕ → KnownMachine → KnownMachine → Type 0
 MissedAll group before after =
     (other : ℕ) → in_subtree after.ledger.groups group other ≡ true → MissedOrKept group other before after
-
--- and of each member of this set of groups, which is one word
-abbrev pub AreMissedOrKept : (limited word : ℕ) → KnownMachine → KnownMachine → Type 0
-AreMissedOrKept limited word before after =
-    (group : ℕ) → group < most_groups → bit_at word group ≡ 1 → MissedOrKept limited group before after

@@ -6,7 +6,6 @@ ghost use Rattle.group_charge.specs.Charges.{current_of};
 ghost use Rattle.group_charge.specs.declared.note.Note.TheVariants.{Spared};
 ghost use Rattle.boot_words.specs.Pasts.{IsHeld};
 ghost use Rattle.mem_machine.specs.Clean.{clean_pages};
-ghost use Rattle.mem_machine.specs.Subtrees.{IsSubtree};
 ghost use Rattle.mem_reclaim.specs.Moves.{FreesBySteps};
 ghost use Rattle.mem_reclaim.specs.Passes.{PassesGroup, ReclaimsGroup, TakesTurn, is_first};
 ghost use Rattle.mem_reclaim.specs.Passes.{is_last, subtree_of};
@@ -21,9 +20,9 @@ use cpu_part::{BootName, Tables};
 use group_charge::note::Note;
 use group_protection::protecting::{Protection, protection_of};
 use group_protection::reclaim_shares::Shares;
-use group_tree::group::GroupId;
+use group_tree::group::{GroupId, MAX_GROUPS};
 use lru_lists::record::LruList;
-use mem_machine::{Machine, bit_set, prove_charges};
+use mem_machine::{Machine, is_in_subtree, prove_charges};
 use step_rules::step::NoteKey;
 
 /// A pass over the groups of a subtree.
@@ -251,19 +250,17 @@ fn part_of(shares: Option<&Shares>, group: GroupId, want: u64) -> u64
     }
 }
 
-/// One pass over `groups`, those of the subtree of `target`, by ascending number, as long as pages are wanted. If there
-/// are shares, no turn wants more than that of its group. Returns how many pages were freed.
+/// One pass over the groups of the subtree of `target`, by ascending number, as long as pages are wanted. If there are
+/// shares, no turn wants more than that of its group. Returns how many pages were freed.
 pub(crate) fn reclaim_pass<N: BootName>(
     machine: &mut Machine<N>,
     tables: &Tables<N>,
     target: GroupId,
-    groups: u64,
     want: u64,
     pass: Pass,
     shares: Option<&Shares>,
 ) -> u64
     requires there { IsTrue (has_group machine.old.ledger.groups target) }
-    requires subtree { IsSubtree machine.old.ledger.groups target groups }
     requires held { IsHeld N.table machine.old.run.past }
     requires shares { shares ≢ None → is_first pass ≡ true }
     ensures passes { FreesBySteps N.table result machine.old machine.new
@@ -277,15 +274,17 @@ pub(crate) fn reclaim_pass<N: BootName>(
 {
     prove_charges(machine.charges());
     machine.prove_usage(target); // At most this many pages are freed.
-    let mut rest = groups;
     let mut freed = 0;
-    while let Some(number) = bit_set::take_first(&mut rest) {
+    for number in 0..MAX_GROUPS as u32 {
         if want <= freed {
             return freed;
         }
         let Some(turn) = GroupId::of(number) else {
             unreachable!()
         };
+        if !is_in_subtree(machine.charges().tree(), target, turn) {
+            continue;
+        }
         let part = part_of(shares, turn, want - freed);
         freed += take_turn(machine, tables, target, turn, part, pass);
     }

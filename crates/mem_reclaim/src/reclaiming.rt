@@ -4,7 +4,6 @@ ghost use Rattle.std.specs.Prelude.{◌≡◌, ◌<◌, ◌+◌, IsTrue, nat_lt}
 ghost use Rattle.group_tree.specs.Groups.{has_group};
 ghost use Rattle.group_charge.specs.Charges.{current_of};
 ghost use Rattle.boot_words.specs.Pasts.{IsHeld};
-ghost use Rattle.mem_machine.specs.Subtrees.{IsSubtree};
 ghost use Rattle.mem_reclaim.specs.Moves.{FreesBySteps};
 ghost use Rattle.mem_reclaim.specs.Passes.{MakesPasses};
 ghost use Rattle.mem_reclaim.specs.Shares.{Reclaims};
@@ -14,7 +13,7 @@ use crate::passes::{Pass, reclaim_pass};
 use crate::shares::reclaim_shares;
 use cpu_part::{BootName, Tables};
 use group_tree::group::GroupId;
-use mem_machine::{Machine, subtree};
+use mem_machine::Machine;
 
 /// The result of a reclaim.
 #[derive(Clone, Copy, Debug, PartialEq, Eq)]
@@ -26,18 +25,16 @@ pub struct Reclaimed {
     pub tried_all: bool,
 }
 
-// The passes of a reclaim of `want` pages from `groups`, those of the subtree of `group`. If no group of the tree has
-// memory.low or memory.min, the third pass would only repeat the second.
+// The passes of a reclaim of `want` pages from the subtree of `group`. If no group of the tree has memory.low or
+// memory.min, the third pass would only repeat the second.
 fn make_passes<N: BootName>(
     machine: &mut Machine<N>,
     tables: &Tables<N>,
     group: GroupId,
-    groups: u64,
     want: u64,
 ) -> u64
     requires there { IsTrue (has_group machine.old.ledger.groups group) }
     requires wanted { 0 < want }
-    requires subtree { IsSubtree machine.old.ledger.groups group groups }
     requires held { IsHeld N.table machine.old.run.past }
     ensures reclaims { FreesBySteps N.table result machine.old machine.new (MakesPasses group want) }
     ensures missed { result < want → MissedAll group machine.old machine.new }
@@ -46,35 +43,18 @@ fn make_passes<N: BootName>(
     ensures keeps { Keeps N.table machine.old machine.new }
 {
     machine.prove_usage(group); // At most this many pages are freed.
-    let first = reclaim_pass(machine, tables, group, groups, want, Pass::First, None);
+    let first = reclaim_pass(machine, tables, group, want, Pass::First, None);
     if want <= first {
         return first;
     }
-    let both = first
-        + reclaim_pass(
-            machine,
-            tables,
-            group,
-            groups,
-            want - first,
-            Pass::Second,
-            None,
-        );
+    let both = first + reclaim_pass(machine, tables, group, want - first, Pass::Second, None);
     if want <= both {
         return both;
     }
     if !machine.charges().is_protecting() {
         return both;
     }
-    both + reclaim_pass(
-        machine,
-        tables,
-        group,
-        groups,
-        want - both,
-        Pass::Third,
-        None,
-    )
+    both + reclaim_pass(machine, tables, group, want - both, Pass::Third, None)
 }
 
 // All passes of a reclaim of `want` pages: the pass of shares before the others, if the boot chose it.
@@ -82,12 +62,10 @@ fn make_all_passes<N: BootName>(
     machine: &mut Machine<N>,
     tables: &Tables<N>,
     group: GroupId,
-    groups: u64,
     want: u64,
 ) -> u64
     requires there { IsTrue (has_group machine.old.ledger.groups group) }
     requires wanted { 0 < want }
-    requires subtree { IsSubtree machine.old.ledger.groups group groups }
     requires held { IsHeld N.table machine.old.run.past }
     ensures reclaims { FreesBySteps N.table result machine.old machine.new (Reclaims group want) }
     ensures missed { result < want → MissedAll group machine.old machine.new }
@@ -96,14 +74,14 @@ fn make_all_passes<N: BootName>(
     ensures keeps { Keeps N.table machine.old machine.new }
 {
     if !machine.is_proportional() {
-        return make_passes(machine, tables, group, groups, want);
+        return make_passes(machine, tables, group, want);
     }
     machine.prove_usage(group); // At most this many pages are freed.
-    let shared = reclaim_shares(machine, tables, group, groups, want);
+    let shared = reclaim_shares(machine, tables, group, want);
     if want <= shared {
         return shared;
     }
-    shared + make_passes(machine, tables, group, groups, want - shared)
+    shared + make_passes(machine, tables, group, want - shared)
 }
 
 /// Frees units that the subtree of `group` keeps, until at least `want` pages are freed or every clean unit that
@@ -135,8 +113,7 @@ pub fn reclaim<N: BootName>(
             tried_all: false,
         };
     }
-    let groups = subtree(machine.charges().tree(), group);
-    let pages = make_all_passes(machine, tables, group, groups, want);
+    let pages = make_all_passes(machine, tables, group, want);
     Reclaimed {
         pages,
         tried_all: pages < want,

@@ -2,24 +2,14 @@
 //! (cgroup-v2.rst, memory.max and memory.events), with a group as one killable unit.
 
 ghost use Rattle.std.specs.Prelude.{◌≡◌, IsTrue, length};
-ghost use Rattle.group_tree.specs.Groups.{has_group, in_subtree};
+ghost use Rattle.group_tree.specs.Groups.{has_group};
 ghost use Rattle.mem_reclaim.specs.Victim.{IsMost, IsNext, IsVictim, candidates, is_candidate, is_excluded};
 ghost use Rattle.mem_reclaim.specs.Victim.{may_be_chosen, may_be_killed};
 ghost use Rattle.mem_reclaim.specs.Sets.{alive_in_subtree};
 
 use cpu_part::BootName;
-use group_charge::charges::Charges;
 use group_tree::group::{GroupId, MAX_GROUPS};
-use mem_machine::{Machine, prove_charges};
-
-// Whether `other` exists and is `group` or a descendant of it.
-fn is_in_subtree(charges: &Charges, group: GroupId, other: GroupId) -> bool
-    requires { IsTrue (has_group charges.now.groups group) }
-    ensures { result ≡ in_subtree charges.now.groups group other }
-{
-    let tree = charges.tree();
-    tree.contains(other) && tree.in_subtree(group, other)
-}
+use mem_machine::{Machine, is_in_subtree, prove_charges};
 
 /// Whether the other group is the group or a descendant of it, and isn't killed.
 pub(crate) fn may_be_killed<N: BootName>(
@@ -30,7 +20,7 @@ pub(crate) fn may_be_killed<N: BootName>(
     requires { IsTrue (has_group machine.now.ledger.groups group) }
     ensures { result ≡ may_be_killed machine.now group other }
 {
-    is_in_subtree(machine.charges(), group, other) && !machine.is_killed(other)
+    is_in_subtree(machine.charges().tree(), group, other) && !machine.is_killed(other)
 }
 
 // Whether the group is this one, if there is one.

@@ -1,6 +1,6 @@
 -- What a read of a group's file shows, and what a write of its settings does.
 use Rattle.std.specs.Prelude.{◌≡◌, ◌≢◌, ℕ, ◌+◌, ◌<◌, ◌≤◌, Bool, Option, [], ◌++◌}
-use Rattle.group_tree.specs.declared.fault.Fault.TheVariants.{NoFile, Again}
+use Rattle.group_tree.specs.declared.fault.Fault.TheVariants.{NoFile, Again, WriteOnly}
 use Rattle.group_charge.specs.Charges.{current_of, settings_of, with_group_limit, with_oom_flag, with_settings}
 use Rattle.control_files.specs.declared.file.File.{File}
 use Rattle.control_files.specs.declared.file.File.TheVariants as file
@@ -14,9 +14,11 @@ use Rattle.mem_system.specs.declared.setting.Setting.{Setting}
 use Rattle.mem_system.specs.declared.setting.Setting.TheVariants.{Max, High, Low, Min, OomGroup, Reclaim}
 use Rattle.mem_system.specs.Usage.{KeepsToLimit, LowersToHigh}
 
--- Read: memory.stat shows what the machine keeps, each other file what the ledger says
+-- Read: memory.stat shows what the machine keeps, and memory.reclaim can't be read; each other file shows what the ledger
+-- says
 abbrev pub read_outcome : KnownMachine → (group : ℕ) → File → Outcome
 read_outcome machine group file.Stat = Stat (memory_stat machine group)
+read_outcome machine group file.Reclaim = Refused WriteOnly
 read_outcome machine group other = Text group other
 
 -- the machine with another limit of the group

@@ -44,7 +44,7 @@ pub use Rattle.mem_system.specs.Groups.{MakesGroup, Removes}
 pub use Rattle.mem_system.specs.Leaves.{IsLeaf, IsNoLeaf}
 pub use Rattle.mem_system.specs.Left.{NothingIsLeft}
 pub use Rattle.mem_system.specs.Locked.{AllShut, CountsItsRun, IsEmptyWithRoom, IsQuiet, IsSound, KnownLocked, SeenBehindLock, counts_in}
-pub use Rattle.mem_system.specs.Outcomes.{HasItsGroups, reply_of, text_reply}
+pub use Rattle.mem_system.specs.Outcomes.{HasItsGroups, IsShownText, shown_path, shown_text}
 pub use Rattle.mem_system.specs.Puts.{EachPuts, MadePut, PutsPins, frames_put, unpin_steps}
 pub use Rattle.mem_system.specs.Releases.{CutsList, ListsFrame, ReleasesFrame, ReturnsFrames}
 pub use Rattle.mem_system.specs.Shown.{ReadsAfterSettling, SettlesCaller, UnitsAt}
@@ -55,4 +55,4 @@ pub use Rattle.mem_system.specs.Visits.{visit_steps, with_run_at}
 pub use Rattle.mem_system.specs.CommandLaws.{EndsLeaveEmptyWords, OnlyCommandsKill, OnlyReclaimFallsShort, ReleasesCutLists}
 pub use Rattle.mem_system.specs.DirtyAllocs.{ServesDirtyAlloc, ServesDirtyAt}
 pub use Rattle.mem_system.specs.Settings.{RefusesValue, WritesSetting}
-pub use Rattle.mem_system.specs.TextCommands.{HasNoFile, HasNoGroupAt, IsFileOf, IsOfZone, NamesFrameBelow, RepliesTo, ServesText, StandsFor, StandsForNone}
+pub use Rattle.mem_system.specs.TextCommands.{HasNoFile, HasNoGroupAt, IsFileOf, IsOfZone, NamesFrameBelow, ServesText, StandsFor, StandsForNone}

@@ -9,7 +9,6 @@ use Rattle.control_files.specs.Files.{name_of_file}
 use Rattle.boot_words.specs.Tables.{KnownTable}
 use Rattle.mem_system.specs.declared.command.LockedCommand.{LockedCommand}
 use Rattle.mem_system.specs.declared.command.LockedCommand.TheVariants as cmd
-use Rattle.mem_system.specs.declared.command.ReplyWithText.{ReplyWithText}
 use Rattle.mem_system.specs.declared.outcome.Outcome.{Outcome}
 use Rattle.mem_system.specs.declared.outcome.Outcome.TheVariants.{Refused}
 use Rattle.mem_system.specs.declared.setting.Setting.{Setting}
@@ -17,7 +16,7 @@ use Rattle.mem_system.specs.declared.text_command.TextCommand.{TextCommand}
 use Rattle.mem_system.specs.declared.text_command.TextCommand.TheVariants.{Mkdir, Rmdir, Write, Read, Settle, Owner, Touch, Dirty, Clean, Release}
 use Rattle.mem_system.specs.declared.text_command.TextCommand.TheVariants.{Alloc}
 use Rattle.mem_system.specs.Commands.{IsSettledAfter}
-use Rattle.mem_system.specs.Outcomes.{HasItsGroups, reply_of}
+use Rattle.mem_system.specs.Outcomes.{HasItsGroups}
 use Rattle.mem_system.specs.Settings.{RefusesValue, WritesSetting}
 use Rattle.mem_system.specs.Visits.{IsServed, LockedState}
 
@@ -111,11 +110,4 @@ pub record ServesText (table : KnownTable) (command : TextCommand) (outcome : Ou
   pub stands : (StandsFor before.locked.machine.ledger.groups command served × (outcome ≡ given))
       ⊎ (RefusesByText before.locked.machine.ledger.groups command outcome × (served ≡ cmd.Settle))
   pub settled : IsSettledAfter served given after.cpu.part
-
--- the same with the reply that the charges after the command make of its outcome; each group that it shows exists
-pub record RepliesTo (table : KnownTable) (command : TextCommand) (reply : ReplyWithText) (before after : LockedState)
-    : Type 0 where
-  pub outcome : Outcome
-  pub serves : ServesText table command outcome before after
   pub groups : HasItsGroups after.locked.machine.ledger outcome
-  pub reply_is : reply ≡ reply_of after.locked.machine.ledger outcome

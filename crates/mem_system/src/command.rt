@@ -1,4 +1,4 @@
-//! The commands that a CPU gives under the lock, how they are executed, and their replies.
+//! The commands that a CPU gives under the lock, and how they are executed.
 
 ghost use Rattle.mem_machine.specs.Local.{KeepsVisit, VisitDoes};
 ghost use Rattle.mem_system.specs.Outcomes.{HasItsGroups};
@@ -13,11 +13,8 @@ use crate::releases::release_frame;
 use crate::setting::Setting;
 use crate::units::{note_dirt, touch_frame};
 use control_files::file::File;
-use control_files::text::ArrayText;
 use cpu_part::{BootName, CpuLists, Tables};
-use group_tree::fault::Fault;
 use group_tree::group::GroupId;
-use group_tree::path::PathText;
 use mem_machine::Machine;
 use zone_blocks::config::Config;
 
@@ -33,7 +30,7 @@ pub enum LockedCommand<'a> {
     /// drained and its clean units reclaimed. Then victims are killed until the usage is within the limit or no victim
     /// is left. A write of memory.oom.group changes only what later kills do. The root is refused with `NoFile`.
     Write { group: GroupId, setting: Setting },
-    /// Reads the text of a file of the group, which isn't the root.
+    /// Reads the text of a file of the group, which isn't the root. One that can't be read is refused with `WriteOnly`.
     Read { group: GroupId, file: File },
     /// Settles the CPU, and does nothing else.
     Settle,
@@ -50,37 +47,6 @@ pub enum LockedCommand<'a> {
     /// Allocates a block of this order for the group; order 0 is a single frame. One above 10 is refused with
     /// `BadOrder`.
     Alloc { group: GroupId, order: u32 },
-}
-
-/// The reply to a CPU's command, with the text of a file or the path of a group. An `Outcome` is the same without them.
-#[derive(Clone, Copy, Debug, PartialEq, Eq)]
-pub enum ReplyWithText {
-    /// The group that was made.
-    Group(GroupId),
-    /// The first frame of what was allocated.
-    Frame(u32),
-    /// It was done.
-    Done,
-    /// The text of the file.
-    Text(ArrayText),
-    /// The frame is free.
-    Free,
-    /// The frame is lent to this CPU.
-    Lent(u32),
-    /// The frame is charged to this group, which has this path.
-    Charged { group: GroupId, path: PathText },
-    /// The unit is now marked, on the inactive list of its group.
-    Marked,
-    /// The unit is now at the newest end of its group's active list, unmarked.
-    Active,
-    /// This many references of CPUs are left on the unit: it stays charged, and isn't kept any more.
-    Left(u64),
-    /// The unit was freed, and its pages were uncharged from its group.
-    Returned,
-    /// The limit of this group, which has this path, has no room.
-    OverLimit { group: GroupId, path: PathText },
-    /// The command is refused for this reason.
-    Refused(Fault),
 }
 
 // Executes the command inside the visit.

@@ -5,7 +5,7 @@ ghost use Rattle.group_tree.specs.Groups.{has_group};
 ghost use Rattle.mem_system.specs.Outcomes.{HasItsGroups};
 ghost use Rattle.boot_words.specs.Pasts.{IsHeld};
 ghost use Rattle.mem_machine.specs.{Makes, StaysVisited, BySteps};
-ghost use Rattle.mem_system.specs.Files.{BecomesSilently, SetsHigh, SetsLimit, Writes, read_outcome, with_low_of, with_min_of};
+ghost use Rattle.mem_system.specs.Files.{SetsHigh, SetsLimit, Writes, read_outcome};
 ghost use Rattle.mem_system.specs.declared.setting.Setting.TheVariants.{Reclaim};
 
 use crate::outcome::Outcome;
@@ -30,6 +30,7 @@ pub(crate) fn read_file<N: BootName>(machine: &Machine<N>, group: GroupId, file:
 {
     match file {
         File::Stat => Outcome::Stat(memory_stat(machine, group)),
+        File::Reclaim => Outcome::Refused(Fault::WriteOnly),
         _ => Outcome::Text(group, file),
     }
 }
@@ -63,24 +64,6 @@ fn set_high<N: BootName>(machine: &mut Machine<N>, tables: &Tables<N>, group: Gr
     let settings = machine.charges().settings(group);
     machine.set_settings(group, ReclaimSettings { high, ..settings });
     lower_to_high(machine, tables, group, high);
-}
-
-// Gives the group the memory.low.
-fn set_low<N: BootName>(machine: &mut Machine<N>, group: GroupId, low: Limit)
-    ensures sets { BySteps Makes N.table (BecomesSilently (with_low_of machine.old group low)) machine.old machine.new }
-    ensures visit { StaysVisited N.table machine.old machine.new }
-{
-    let settings = machine.charges().settings(group);
-    machine.set_settings(group, ReclaimSettings { low, ..settings });
-}
-
-// Gives the group the memory.min.
-fn set_min<N: BootName>(machine: &mut Machine<N>, group: GroupId, min: Limit)
-    ensures sets { BySteps Makes N.table (BecomesSilently (with_min_of machine.old group min)) machine.old machine.new }
-    ensures visit { StaysVisited N.table machine.old machine.new }
-{
-    let settings = machine.charges().settings(group);
-    machine.set_settings(group, ReclaimSettings { min, ..settings });
 }
 
 // Reclaims this many pages from the group's subtree. The write is refused if fewer were freed; these stay freed.
@@ -120,6 +103,7 @@ pub(crate) fn write_setting<N: BootName>(
     if group == GroupId::root() {
         return Outcome::Refused(Fault::NoFile);
     }
+    let settings = machine.charges().settings(group);
     match setting {
         Setting::Max(limit) => {
             set_limit(machine, tables, group, limit);
@@ -130,11 +114,11 @@ pub(crate) fn write_setting<N: BootName>(
             Outcome::Done
         }
         Setting::Low(low) => {
-            set_low(machine, group, low);
+            machine.set_settings(group, ReclaimSettings { low, ..settings });
             Outcome::Done
         }
         Setting::Min(min) => {
-            set_min(machine, group, min);
+            machine.set_settings(group, ReclaimSettings { min, ..settings });
             Outcome::Done
         }
         Setting::OomGroup(flag) => {

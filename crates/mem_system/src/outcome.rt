@@ -1,17 +1,18 @@
-//! The outcome of a command, and its reply.
+//! The outcome of a command.
 
 ghost use Rattle.std.specs.Prelude.{◌≡◌};
-ghost use Rattle.mem_system.specs.Outcomes.{HasItsGroups, reply_of};
+ghost use Rattle.mem_system.specs.declared.outcome.Outcome.TheVariants.{Text};
+ghost use Rattle.mem_system.specs.Outcomes.{HasItsGroups, shown_text};
 
-use crate::command::ReplyWithText;
 use control_files::file::{File, file_text};
-use control_files::stat::{MemoryStat, stat_text};
+use control_files::stat::MemoryStat;
+use control_files::text::ArrayText;
 use group_charge::charges::Charges;
 use group_tree::fault::Fault;
 use group_tree::group::GroupId;
 
-/// The outcome of a command: a `ReplyWithText` without its texts, which the charges give while the lock is held. It is
-/// small, so a caller that writes the reply at once needs no room for a path.
+/// The outcome of a command. It holds no text: while the lock is held, the charges give the path of a group and the text
+/// of a file, to a caller that needs their bytes.
 #[derive(Clone, Copy, PartialEq, Eq)]
 pub enum Outcome {
     /// The group that was made.
@@ -20,9 +21,9 @@ pub enum Outcome {
     Frame(u32),
     /// It was done.
     Done,
-    /// The text of this file of the group.
+    /// This file of the group was read: `shown_text` gives its text.
     Text(GroupId, File),
-    /// The text of memory.stat, with these sums. The charges don't give them, so they are carried.
+    /// memory.stat was read, with these sums: `stat_text` gives its text. The charges don't have the sums.
     Stat(MemoryStat),
     /// The frame is free.
     Free,
@@ -44,36 +45,13 @@ pub enum Outcome {
     Refused(Fault),
 }
 
-// Turns the outcome into its reply. It is inlined, because a reply has room for a path: returning one by value clears
-// and copies that room.
-#[inline(always)]
-pub(crate) fn set_reply(charges: &Charges, outcome: Outcome, reply: &mut ReplyWithText)
-    requires { HasItsGroups charges.now outcome }
-    ensures { reply.new ≡ reply_of charges.now outcome }
+/// The text of the file of the group that an outcome shows, by the charges that the command left.
+pub fn shown_text(charges: &Charges, group: GroupId, file: File) -> ArrayText
+    requires { HasItsGroups charges.now (Text group file) }
+    ensures { result ≡ shown_text charges.now group file }
 {
-    match outcome {
-        Outcome::Group(group) => *reply = ReplyWithText::Group(group),
-        Outcome::Frame(frame) => *reply = ReplyWithText::Frame(frame),
-        Outcome::Done => *reply = ReplyWithText::Done,
-        Outcome::Text(group, file) => match file_text(charges, group, file) {
-            Ok(text) => *reply = ReplyWithText::Text(text),
-            Err(fault) => *reply = ReplyWithText::Refused(fault),
-        },
-        Outcome::Stat(stat) => *reply = ReplyWithText::Text(stat_text(stat)),
-        Outcome::Free => *reply = ReplyWithText::Free,
-        Outcome::Lent(cpu) => *reply = ReplyWithText::Lent(cpu),
-        Outcome::Charged(group) => {
-            let path = *charges.tree().path_of(group);
-            *reply = ReplyWithText::Charged { group, path };
-        }
-        Outcome::Marked => *reply = ReplyWithText::Marked,
-        Outcome::Active => *reply = ReplyWithText::Active,
-        Outcome::Left(left) => *reply = ReplyWithText::Left(left),
-        Outcome::Returned => *reply = ReplyWithText::Returned,
-        Outcome::OverLimit(group) => {
-            let path = *charges.tree().path_of(group);
-            *reply = ReplyWithText::OverLimit { group, path };
-        }
-        Outcome::Refused(fault) => *reply = ReplyWithText::Refused(fault),
+    match file_text(charges, group, file) {
+        Ok(text) => text,
+        Err(_) => unreachable!(),
     }
 }

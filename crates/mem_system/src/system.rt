@@ -6,15 +6,14 @@ ghost use Rattle.group_tree.specs.Groups.{number_at};
 ghost use Rattle.group_charge.specs.Charges.{AreCharges};
 ghost use Rattle.mem_machine.specs.Machines.{IsConsistent};
 ghost use Rattle.mem_system.specs.Locked.{IsQuiet, SeenBehindLock};
-ghost use Rattle.mem_system.specs.TextCommands.{IsOfZone, RepliesTo};
+ghost use Rattle.mem_system.specs.TextCommands.{IsOfZone, ServesText};
 ghost use Rattle.mem_system.specs.Visits.{IsVisited};
 
-use crate::command::ReplyWithText;
 use crate::cpus::Cpu;
-use crate::gates::{Gate, NoGate};
 use crate::lock::Locked;
+use crate::outcome::Outcome;
 use crate::text_command::TextCommand;
-use crate::visits::serve_into;
+use crate::visits::serve_text;
 use cpu_part::{BootName, Tables};
 use group_tree::group::GroupId;
 use std::hint::spin_loop;
@@ -144,43 +143,19 @@ impl<N: BootName> System<N> {
 
     /// Serves one command of the CPU: takes the lock, serves the command, and releases the lock. A frame that the
     /// command names is a frame of the zone. No clause can name what lies behind the lock. So the contract says that
-    /// some sound value was there, with the system's sizes, that `serve_into` did its work on it, and that a sound
-    /// value was left.
+    /// some sound value was there, with the system's sizes, that `serve_text` did its work on it, and that a sound
+    /// value was left. Who needs the text of a file or the path of a group takes the lock itself (`lock`), calls
+    /// `serve_text`, and gets the bytes from the charges before it releases the lock.
     #[inline(always)]
-    pub fn visit<R: Wait>(
-        &self,
-        rt: &R,
-        cpu: &mut Cpu<N>,
-        command: &TextCommand<'_>,
-    ) -> ReplyWithText
+    pub fn visit<R: Wait>(&self, rt: &R, cpu: &mut Cpu<N>, command: &TextCommand<'_>) -> Outcome
         requires { IsOfZone N.table command.now }
-        ensures { IsVisited N.table self.now.sizes (RepliesTo N.table command.now result) cpu.old cpu.new }
-    {
-        let mut reply = ReplyWithText::Done;
-        self.visit_into(rt, cpu, command, &NoGate, &mut reply);
-        reply
-    }
-
-    /// Serves one command of the CPU as `visit` does, and overwrites this reply. It calls the gate's `inside` once,
-    /// while it holds the lock and before the command is served. A reply has room for a path, so returning one by value
-    /// clears and copies that room each time. A caller that makes many visits keeps one reply for all.
-    #[inline(always)]
-    pub fn visit_into<R: Wait, G: Gate>(
-        &self,
-        rt: &R,
-        cpu: &mut Cpu<N>,
-        command: &TextCommand<'_>,
-        gate: &G,
-        reply: &mut ReplyWithText,
-    )
-        requires { IsOfZone N.table command.now }
-        ensures { IsVisited N.table self.now.sizes (RepliesTo N.table command.now reply.new) cpu.old cpu.new }
+        ensures { IsVisited N.table self.now.sizes (ServesText N.table command.now result) cpu.old cpu.new }
     {
         let mut guard = self.lock(rt);
-        gate.inside(cpu.number());
         let locked = &mut *guard;
         locked.prove_quiet();
-        serve_into(locked, &self.tables, cpu, command, reply);
+        let outcome = serve_text(locked, &self.tables, cpu, command);
         locked.prove_quiet();
+        outcome
     }
 }

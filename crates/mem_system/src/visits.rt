@@ -4,13 +4,13 @@ ghost use Rattle.mem_system.specs.Outcomes.{HasItsGroups};
 ghost use Rattle.mem_system.specs.Commands.{IsSettled, IsSettledAfter, NamesWhatExists};
 ghost use Rattle.mem_system.specs.Lost.{LosesNoUnit};
 ghost use Rattle.mem_system.specs.Shown.{SettlesCaller};
-ghost use Rattle.mem_system.specs.TextCommands.{IsOfZone, RepliesTo, ServesText};
+ghost use Rattle.mem_system.specs.TextCommands.{IsOfZone, ServesText};
 ghost use Rattle.mem_system.specs.Visits.{EndsVisit, IsServed, locked_state};
 
-use crate::command::{LockedCommand, ReplyWithText, execute};
+use crate::command::{LockedCommand, execute};
 use crate::cpus::Cpu;
 use crate::lock::Locked;
-use crate::outcome::{Outcome, set_reply};
+use crate::outcome::Outcome;
 use crate::text_command::TextCommand;
 use cpu_part::{BootName, Tables};
 
@@ -75,25 +75,6 @@ pub fn serve_text<N: BootName>(
             Outcome::Refused(fault)
         }
     }
-}
-
-/// Serves one command of the CPU as `serve_text` does, and overwrites this reply, which has the texts. A frame that the
-/// command names is a frame of the zone.
-#[inline(always)]
-pub fn serve_into<N: BootName>(
-    locked: &mut Locked<N>,
-    tables: &Tables<N>,
-    cpu: &mut Cpu<N>,
-    command: &TextCommand<'_>,
-    reply: &mut ReplyWithText,
-)
-    requires { IsOfZone N.table command.now }
-    ensures replies { RepliesTo N.table command.now reply.new (locked_state locked.old cpu.old)
-        (locked_state locked.new cpu.new) }
-    ensures ends { EndsVisit N.table (locked_state locked.old cpu.old) (locked_state locked.new cpu.new) }
-{
-    let outcome = serve_text(locked, tables, cpu, command);
-    set_reply(locked.charges(), outcome, reply);
 }
 
 /// Serves `Settle`: settles the CPU, and does nothing else.

@@ -7,9 +7,10 @@ use Rattle.frame_word.specs.declared.answers.Get.{Get}
 use Rattle.frame_word.specs.declared.answers.Get.TheVariants.{Held, Zero, Raced, Full}
 use Rattle.frame_word.specs.declared.answers.Put as word
 use Rattle.frame_word.specs.declared.answers.Put.TheVariants.{Left, Last}
-use Rattle.reply_texts.specs.LineAnswer.{LineAnswer}
-use Rattle.reply_texts.specs.LineAnswer as answer
-use Rattle.reply_texts.specs.Replies.{refusal_text, reply_text}
+use Rattle.group_charge.specs.Charges.{Ledger}
+use Rattle.reply_texts.specs.declared.line_answer.LineAnswer.{LineAnswer}
+use Rattle.reply_texts.specs.declared.line_answer.LineAnswer.TheVariants as answer
+use Rattle.reply_texts.specs.Replies.{refusal_text, outcome_text}
 use Rattle.reply_texts.specs.declared.steps.UnlockedAnswer.{UnlockedAnswer}
 use Rattle.reply_texts.specs.declared.steps.UnlockedAnswer.TheVariants as unlocked
 
@@ -42,8 +43,12 @@ unlocked_text (unlocked.Put put) = put_text put
 unlocked_text unlocked.Listed = codes "listed\n"
 unlocked_text (unlocked.Refused reason) = refusal_text reason
 
--- what is written for the answer to a line
-abbrev pub answer_text : LineAnswer → List ℕ
-answer_text (answer.Served reply) = reply_text reply
-answer_text answer.Settled = codes "settled\n"
-answer_text (answer.Unlocked said) = unlocked_text said
+-- the line of a CPU that was settled
+abbrev pub settled_text : List ℕ
+settled_text = codes "settled\n"
+
+-- what is written for the answer to a line, with paths and texts of files by the charges
+abbrev pub answer_text : Ledger → LineAnswer → List ℕ
+answer_text ledger (answer.Served outcome) = outcome_text ledger outcome
+answer_text ledger answer.Settled = settled_text
+answer_text ledger (answer.Unlocked said) = unlocked_text said

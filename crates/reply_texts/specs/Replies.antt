@@ -1,13 +1,16 @@
--- What is written for replies.
+-- What is written for what was served under the lock.
 use Rattle.std.specs.Prelude.{ℕ, List, ◌++◌, codes}
 use Rattle.std.specs.Fmt.{decimal}
 use Rattle.group_tree.specs.declared.fault.Fault.{Fault}
 use Rattle.group_tree.specs.declared.fault.Fault.TheVariants as fault
 use Rattle.group_tree.specs.Faults.{name_of, number_of}
+use Rattle.group_charge.specs.Charges.{Ledger}
+use Rattle.control_files.specs.Stat.{stat_text}
 use Rattle.machine_texts.specs.Characters.{characters}
-use Rattle.mem_system.specs.declared.command.ReplyWithText.{ReplyWithText}
-use Rattle.mem_system.specs.declared.command.ReplyWithText.TheVariants.{Group, Frame, Done, Text, Free, Lent, Charged, Marked, Active, Left, Returned}
-use Rattle.mem_system.specs.declared.command.ReplyWithText.TheVariants.{OverLimit, Refused}
+use Rattle.mem_system.specs.Outcomes.{shown_path, shown_text}
+use Rattle.mem_system.specs.declared.outcome.Outcome.{Outcome}
+use Rattle.mem_system.specs.declared.outcome.Outcome.TheVariants.{Group, Frame, Done, Text, Stat, Free, Lent, Charged, Marked, Active, Left, Returned}
+use Rattle.mem_system.specs.declared.outcome.Outcome.TheVariants.{OverLimit, Refused}
 
 -- the words of a refusal: its number and its name
 abbrev pub refusal_words : Fault → List ℕ
@@ -25,18 +28,19 @@ over_limit_text group path = refusal_words (fault.OverLimit group) ++ codes " " 
 abbrev pub path_text : List ℕ → List ℕ
 path_text path = characters path ++ codes "\n"
 
--- what is written for a reply
-abbrev pub reply_text : ReplyWithText → List ℕ
-reply_text (Group group) = codes "group " ++ decimal group ++ codes "\n"
-reply_text (Frame frame) = codes "frame " ++ decimal frame ++ codes "\n"
-reply_text Done = codes "ok\n"
-reply_text (Text text) = characters text
-reply_text Free = codes "free\n"
-reply_text (Lent cpu) = codes "cpu " ++ decimal cpu ++ codes "\n"
-reply_text (Charged group path) = path_text path
-reply_text Marked = codes "marked\n"
-reply_text Active = codes "active\n"
-reply_text (Left references) = codes "left " ++ decimal references ++ codes "\n"
-reply_text Returned = codes "returned\n"
-reply_text (OverLimit group path) = over_limit_text group path
-reply_text (Refused reason) = refusal_text reason
+-- what is written for an outcome, with paths and texts of files by the charges
+abbrev pub outcome_text : Ledger → Outcome → List ℕ
+outcome_text ledger (Group group) = codes "group " ++ decimal group ++ codes "\n"
+outcome_text ledger (Frame frame) = codes "frame " ++ decimal frame ++ codes "\n"
+outcome_text ledger Done = codes "ok\n"
+outcome_text ledger (Text group file) = characters (shown_text ledger group file)
+outcome_text ledger (Stat stat) = characters (stat_text stat)
+outcome_text ledger Free = codes "free\n"
+outcome_text ledger (Lent cpu) = codes "cpu " ++ decimal cpu ++ codes "\n"
+outcome_text ledger (Charged group) = path_text (shown_path ledger group)
+outcome_text ledger Marked = codes "marked\n"
+outcome_text ledger Active = codes "active\n"
+outcome_text ledger (Left references) = codes "left " ++ decimal references ++ codes "\n"
+outcome_text ledger Returned = codes "returned\n"
+outcome_text ledger (OverLimit group) = over_limit_text group (shown_path ledger group)
+outcome_text ledger (Refused reason) = refusal_text reason

@@ -5,46 +5,22 @@ ghost use Rattle.std.specs.String.{string_bytes};
 ghost use Rattle.control_files.specs.Stat.{stat_text};
 ghost use Rattle.machine_texts.specs.Characters.{characters};
 ghost use Rattle.mem_system.specs.declared.outcome.Outcome.TheVariants.{Text};
-ghost use Rattle.mem_system.specs.Outcomes.{HasItsGroups, reply_of};
-ghost use Rattle.reply_texts.specs.Replies.{path_text, reply_text};
+ghost use Rattle.mem_system.specs.Outcomes.{HasItsGroups};
+ghost use Rattle.reply_texts.specs.Replies.{outcome_text, path_text};
 
 use crate::numbers::write_number;
 use crate::refusals::{write_over_limit, write_refusal};
-use control_files::file::{File, file_text};
+use control_files::file::File;
 use control_files::stat::{MemoryStat, stat_text};
 use group_charge::charges::Charges;
 use group_tree::group::GroupId;
 use group_tree::path::PathText;
 use machine_texts::push_characters;
-use mem_system::{Outcome, ReplyWithText};
+use mem_system::{Outcome, shown_text};
 use std::alloc::AllocError;
 
-/// Adds what is written for a reply, with the line feed of each of its lines. It fails only if memory runs out.
-pub fn write_reply(reply: &ReplyWithText, text: &mut String) -> Result<(), AllocError>
-    ensures { IfOk result (λ _. string_bytes text.new ≡ string_bytes text.old ++ reply_text reply.now) }
-{
-    match reply {
-        ReplyWithText::Group(group) => write_number("group ", u64::from(group.number()), text),
-        ReplyWithText::Frame(number) => write_number("frame ", u64::from(*number), text),
-        ReplyWithText::Done => text.push_str("ok\n"),
-        ReplyWithText::Text(file) => push_characters(file.as_bytes(), text),
-        ReplyWithText::Free => text.push_str("free\n"),
-        ReplyWithText::Lent(cpu) => write_number("cpu ", u64::from(*cpu), text),
-        ReplyWithText::Charged { group: _, path } => write_path(path, text),
-        ReplyWithText::Marked => text.push_str("marked\n"),
-        ReplyWithText::Active => text.push_str("active\n"),
-        ReplyWithText::Left(references) => write_number("left ", *references, text),
-        ReplyWithText::Returned => text.push_str("returned\n"),
-        ReplyWithText::OverLimit { group, path } => write_over_limit(*group, path, text),
-        ReplyWithText::Refused(fault) => {
-            let fault = *fault;
-            write_refusal(&fault, text)
-        }
-    }
-}
-
-/// Adds what is written for an outcome, with paths and file texts from these charges. This is the text that
-/// `write_reply` adds for the reply of the outcome, but no reply is made. It fails only if memory runs out.
+/// Adds what is written for an outcome, with the line feed of each of its lines. Paths and texts of files are those of
+/// these charges, so the caller has kept the lock since the command. It fails only if memory runs out.
 pub fn write_outcome(
     charges: &Charges,
     outcome: &Outcome,
@@ -52,7 +28,7 @@ pub fn write_outcome(
 ) -> Result<(), AllocError>
     requires { HasItsGroups charges.now outcome.now }
     ensures { IfOk result (λ _. string_bytes text.new
-        ≡ string_bytes text.old ++ reply_text (reply_of charges.now outcome.now)) }
+        ≡ string_bytes text.old ++ outcome_text charges.now outcome.now) }
 {
     match *outcome {
         Outcome::Group(group) => write_number("group ", u64::from(group.number()), text),
@@ -84,12 +60,9 @@ fn write_file(
 ) -> Result<(), AllocError>
     requires { HasItsGroups charges.now (Text group file) }
     ensures { IfOk result (λ _. string_bytes text.new
-        ≡ string_bytes text.old ++ reply_text (reply_of charges.now (Text group file))) }
+        ≡ string_bytes text.old ++ outcome_text charges.now (Text group file)) }
 {
-    match file_text(charges, group, file) {
-        Ok(told) => push_characters(told.as_bytes(), text),
-        Err(fault) => write_refusal(&fault, text),
-    }
+    push_characters(shown_text(charges, group, file).as_bytes(), text)
 }
 
 // The text of memory.stat.

@@ -2,8 +2,7 @@
 
 ghost use Rattle.std.specs.Prelude.{◌≡◌, ◌++◌, IfOk};
 ghost use Rattle.std.specs.String.{string_bytes};
-ghost use Rattle.reply_texts.specs.LineAnswer.{Settled};
-ghost use Rattle.reply_texts.specs.Answers.{answer_text, fast_text, get_text, put_text, unlocked_text};
+ghost use Rattle.reply_texts.specs.Answers.{fast_text, get_text, put_text, settled_text, unlocked_text};
 
 use crate::numbers::write_number;
 use crate::refusals::write_refusal;
@@ -78,7 +77,7 @@ pub fn write_unlocked(answer: &UnlockedAnswer, text: &mut String) -> Result<(), 
 
 /// Adds the line for a CPU that was settled, and nothing else. It fails only if memory runs out.
 pub fn write_settled(text: &mut String) -> Result<(), AllocError>
-    ensures { IfOk result (λ _. string_bytes text.new ≡ string_bytes text.old ++ answer_text Settled) }
+    ensures { IfOk result (λ _. string_bytes text.new ≡ string_bytes text.old ++ settled_text) }
 {
     text.push_str("settled\n")
 }

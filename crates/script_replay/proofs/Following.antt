@@ -30,8 +30,8 @@ use Rattle.mem_system.specs.declared.command.LockedCommand.{LockedCommand}
 use Rattle.mem_system.specs.declared.outcome.Outcome.{Outcome}
 use Rattle.mem_system.specs.{CpuInRun, seat_of, KnownLocked, LockedState, locked_state, IsServed}
 use Rattle.mem_system.specs.Visits.{transition}
-use Rattle.reply_texts.specs.LineAnswer.{LineAnswer}
-use Rattle.reply_texts.specs.LineAnswer as answer
+use Rattle.reply_texts.specs.declared.line_answer.LineAnswer.{LineAnswer}
+use Rattle.reply_texts.specs.declared.line_answer.LineAnswer.TheVariants as answer
 use Rattle.reply_texts.specs.declared.steps.UnlockedAnswer.{UnlockedAnswer}
 use Rattle.reply_texts.specs.declared.steps.UnlockedAnswer.TheVariants as unlocked
 use Rattle.script_lines.specs.declared.line.Command.{Command}
@@ -215,18 +215,18 @@ module _ (t : KnownTable) (run : Run) (locked : KnownLocked) (cpus : List KnownC
       (answer : LineAnswer) (steps : Run) (after : LockedState) → IsServedUnderLock is_explained command answer (transition t seen steps after)
       → IsLegalOn steps → Follows steps after
   locked_follows is_explained seen saw same command answer steps after is legal =
-      let served = is.answers.replies.serves.visit in
+      let served = is.answers.serves.visit in
       as_made steps (under_lock seen.cpu.part.number served.steps) after is.steps_are
       (λ all. watched_follows (under_lock seen.cpu.part.number served.steps) (cpu_makes seen.cpu.part.number step.Unlock step_answer.Done ∷ []) is.left after is.unlock
       (served_follows seen.cpu same is.found
       (ap (λ (l : KnownLocked). left_by t l.machine.run.past) is.lock.locked ∙ saw.left)
       (ap (λ (l : KnownLocked). l.machine.ledger) is.lock.locked ∙ ap (λ (l : KnownLocked). l.machine.ledger) saw.locked)
-      is.answers.replies.serves.served is.answers.replies.serves.given (locked_state is.left after.cpu) served all)) legal
+      is.answers.serves.served is.answers.serves.given (locked_state is.left after.cpu) served all)) legal
 
   pub answer_follows : (is_explained : Bool) (command : Command) (steps : Run) (after : LockedState) (answer : LineAnswer)
       → AnswersCommand is_explained command (transition t before steps after) answer → IsLegalOn steps → Follows steps after
-  answer_follows is_explained command steps after (answer.Served reply) is legal =
-      locked_follows is_explained is.seen is.only_saw (vain_same command before is.seen.cpu is.tried) command (answer.Served reply) steps after is.served legal
+  answer_follows is_explained command steps after (answer.Served outcome) is legal =
+      locked_follows is_explained is.seen is.only_saw (vain_same command before is.seen.cpu is.tried) command (answer.Served outcome) steps after is.served legal
   answer_follows is_explained command steps after answer.Settled is legal =
       locked_follows is_explained before (saw_none t locked) refl command answer.Settled steps after is legal
   answer_follows is_explained command steps after (answer.Unlocked said) is legal = serves_unlocked_follows command steps after said is legal

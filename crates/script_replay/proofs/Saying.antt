@@ -6,9 +6,10 @@ use Rattle.std.proofs.lemmas.Option.{slice_get_read}
 use Rattle.boot_words.specs.Tables.{KnownTable}
 use Rattle.mem_system.specs.{CpuInRun, IsSound, KnownLocked, LockedState, locked_state}
 use Rattle.mem_system.specs.Visits.{Transition, transition}
-use Rattle.reply_texts.specs.LineAnswer.{LineAnswer}
-use Rattle.reply_texts.specs.LineAnswer as answer
-use Rattle.reply_texts.specs.Answers.{answer_text}
+use Rattle.reply_texts.specs.declared.line_answer.LineAnswer.{LineAnswer}
+use Rattle.reply_texts.specs.declared.line_answer.LineAnswer.TheVariants as answer
+use Rattle.reply_texts.specs.Answers.{answer_text, settled_text, unlocked_text}
+use Rattle.reply_texts.specs.Replies.{outcome_text}
 use Rattle.script_lines.specs.declared.line.Command.{Command}
 use Rattle.script_lines.specs.declared.line.Command.TheVariants.{Settle, Blocks, Show, Stock, Units}
 use Rattle.script_lines.specs.declared.line.Line.TheVariants.{At}
@@ -19,23 +20,23 @@ use Rattle.script_replay.proofs.Gaining.{part_goes_on}
 
 -- ---- the text of what is said
 
-settled_text : (t : KnownTable) (command : Command) (left : LockedState) → HasValueAnswer command → OnlySettles command
-    → IsSettledText t false command (answer_text answer.Settled) left
-settled_text t Settle left has settles = refl
-settled_text t Blocks left has settles = absurd has
-settled_text t Show left has settles = absurd has
-settled_text t Stock left has settles = absurd has
-settled_text t (Units path) left has settles = absurd has
-settled_text t command left has settles = absurd settles
+settled_says : (t : KnownTable) (command : Command) (left : LockedState) → HasValueAnswer command → OnlySettles command
+    → IsSettledText t false command settled_text left
+settled_says t Settle left has settles = refl
+settled_says t Blocks left has settles = absurd has
+settled_says t Show left has settles = absurd has
+settled_says t Stock left has settles = absurd has
+settled_says t (Units path) left has settles = absurd has
+settled_says t command left has settles = absurd settles
 
 said_text : (command : Command) (call : Transition LockedState) (answer : LineAnswer) → HasValueAnswer command
-    → AnswersCommand false command call answer → IsAnswerText call.table false command answer (answer_text answer) call.after
-said_text command call (answer.Served reply) has so = sym (append-nil (answer_text (answer.Served reply)))
-said_text command call answer.Settled has so = settled_text call.table command call.after has so.answers.is_answer.0
-said_text command call (answer.Unlocked said) has so = sym (append-nil (answer_text (answer.Unlocked said)))
+    → AnswersCommand false command call answer → IsAnswerText call.table false command answer (answer_text call.after.locked.machine.ledger answer) call.after
+said_text command call (answer.Served outcome) has so = sym (append-nil (outcome_text call.after.locked.machine.ledger outcome))
+said_text command call answer.Settled has so = settled_says call.table command call.after has so.answers.is_answer.0
+said_text command call (answer.Unlocked said) has so = sym (append-nil (unlocked_text said))
 
 as_text : (command : Command) (call : Transition LockedState) (answer : LineAnswer) → HasValueAnswer command → AnswersCommand false command call answer
-    → WritesCommand false command call (answer_text answer)
+    → WritesCommand false command call (answer_text call.after.locked.machine.ledger answer)
 as_text command call answer has so = record { answer = answer; answered = so; told = said_text command call answer has so }
 
 -- ---- a command at its part
@@ -53,11 +54,11 @@ module _ (table : KnownTable) (l m : KnownLocked) (cpus : List CpuInRun) (cpu : 
   abbrev after : SystemState
   after = system_state m (slice_set cpus (cpu - 1) d)
 
-  one_line : (number : ℕ) → ServesLine on (At number cpu command) before after (answer_text answer)
+  one_line : (number : ℕ) → ServesLine on (At number cpu command) before after (answer_text m.machine.ledger answer)
   one_line number = record {
     steps = says.steps;
     tells = record {
-      plain = answer_text answer;
+      plain = answer_text m.machine.ledger answer;
       so = record {
         part = c;
         left = d;
@@ -75,12 +76,12 @@ module _ (table : KnownTable) (l m : KnownLocked) (cpus : List CpuInRun) (cpu : 
   command_said = record {
     says = record { part = c; left = d; is_part = is_part; done = says; cpus = refl };
     replays = λ number. record {
-      first = answer_text answer;
+      first = answer_text m.machine.ledger answer;
       rest = [];
       between = after;
       serves_first = one_line number;
       serves_rest = (refl, refl);
-      text_is = sym (append-nil (answer_text answer));
+      text_is = sym (append-nil (answer_text m.machine.ledger answer));
     };
   }
 

@@ -10,8 +10,8 @@ use Rattle.step_watch.specs.Watched.{KnownWatch, Watches, SawRun, has_legal_step
 use Rattle.step_watch.proofs.Watching.{watches_none, watches_both, watched_runs_are_legal}
 use Rattle.mem_system.specs.Locked.{KnownLocked}
 use Rattle.mem_system.specs.Visits.{transition, LockedState}
-use Rattle.reply_texts.specs.LineAnswer.{LineAnswer}
-use Rattle.reply_texts.specs.LineAnswer as answer
+use Rattle.reply_texts.specs.declared.line_answer.LineAnswer.{LineAnswer}
+use Rattle.reply_texts.specs.declared.line_answer.LineAnswer.TheVariants as answer
 use Rattle.reply_texts.specs.declared.steps.UnlockedAnswer.{UnlockedAnswer}
 use Rattle.reply_texts.specs.declared.steps.UnlockedAnswer.TheVariants as unlocked
 use Rattle.script_lines.specs.declared.line.Command.{Command}
@@ -44,7 +44,7 @@ module _ (t : KnownTable) (before : LockedState) (steps : Run) (after : LockedSt
   locked_seen : (is_explained : Bool) (command : Command) (seen : LockedState) (answer : LineAnswer) → OnlySaw t [] before.locked seen.locked
       → IsServedUnderLock is_explained command answer (transition t seen steps after) → SeesAll
   locked_seen is_explained command seen answer saw is =
-      let served = is.answers.replies.serves.visit in
+      let served = is.answers.serves.visit in
       let first : Run = cpu_makes seen.cpu.part.number step.Lock step_answer.Done ∷ [] in
       let last : Run = cpu_makes seen.cpu.part.number step.Unlock step_answer.Done ∷ [] in
       let a : KnownWatch = seen.locked.machine.run.watch in
@@ -66,7 +66,7 @@ module _ (t : KnownTable) (before : LockedState) (steps : Run) (after : LockedSt
 
   answer_seen : (is_explained : Bool) (command : Command) (answer : LineAnswer)
       → AnswersCommand is_explained command (transition t before steps after) answer → SeesAll
-  answer_seen is_explained command (answer.Served reply) is = locked_seen is_explained command is.seen (answer.Served reply) is.only_saw is.served
+  answer_seen is_explained command (answer.Served outcome) is = locked_seen is_explained command is.seen (answer.Served outcome) is.only_saw is.served
   answer_seen is_explained command answer.Settled is = locked_seen is_explained command before answer.Settled (saw_none t before.locked) is
   answer_seen is_explained command (answer.Unlocked said) is = unlocked_seen command said is
 

@@ -4,8 +4,8 @@ use Rattle.std.proofs.lemmas.Option.{none-some}
 use Rattle.std.specs.Borrow.{Bor}
 use Rattle.std.specs.declared.string.String.{String}
 use Rattle.std.specs.String.{string_bytes}
-use Rattle.group_charge.specs.Charges.{Ledger}
 use Rattle.boot_words.specs.Tables.{KnownTable}
+use Rattle.group_tree.specs.declared.fault.Fault.{Fault}
 use Rattle.cpu_part.specs.declared.answers.Fast.{Fast as FastAnswer}
 use Rattle.cpu_part.specs.declared.answers.Fast.TheVariants.{FreshFull, ListEmpty, OtherGroup, Drained, NoStock, Got}
 use Rattle.mem_machine.specs.Machines.{KnownMachine}
@@ -13,20 +13,18 @@ use Rattle.boot_words.specs.Pasts.{own_past}
 use Rattle.boot_words.proofs.Gaining.{gains_both}
 use Rattle.mem_system.specs.{CpuInRun, KnownLocked, LockedState, locked_state}
 use Rattle.mem_system.specs.Visits.{Transition, transition}
-use Rattle.reply_texts.specs.LineAnswer.{LineAnswer}
-use Rattle.reply_texts.specs.LineAnswer as answer
+use Rattle.reply_texts.specs.declared.line_answer.LineAnswer.{LineAnswer}
+use Rattle.reply_texts.specs.declared.line_answer.LineAnswer.TheVariants as answer
 use Rattle.reply_texts.specs.Answers.{answer_text}
 use Rattle.reply_texts.specs.declared.steps.UnlockedAnswer.{UnlockedAnswer}
 use Rattle.reply_texts.specs.declared.steps.UnlockedAnswer.TheVariants as unlocked
 use Rattle.script_lines.specs.declared.line.Command.{Command}
 use Rattle.script_lines.specs.declared.line.Command.TheVariants.{Alloc, Fast, Get, Put, Settle, Blocks, Show, Stock, Units}
 use Rattle.step_rules.specs.After.{Run}
-use Rattle.script_replay.specs.declared.answer_value.AnswerValue.{AnswerValue}
-use Rattle.script_replay.specs.declared.answer_value.AnswerValue.TheVariants as value
 use Rattle.script_replay.specs.{AddsText, AnswersUnlocked, AnswersLocked, Gains, OnlySaw, AnswersCommand, ServesUnlocked, IsAnswerText, IsSettledText}
 use Rattle.script_replay.specs.{IsTriedInVain, NeedsLock, OnlyWatched, ServesAnswer, ServesUnderLock, TakesNoLock, explanation_if, is_noted}
 use Rattle.script_replay.specs.{steps_unlocked, OnlySettles, locked_command_of, frame_path, head_named, is_tried, path_removed, borrower_of, fault_in}
-use Rattle.script_replay.specs.{refusal_reason_text, reasoned_text, answer_of}
+use Rattle.script_replay.specs.{refusal_reason_text, reasoned_text}
 use Rattle.script_replay.specs.Terms.{Terms}
 use Rattle.script_replay.proofs.Gaining.{gains_none, saw_both, saw_none, watched_gains, watched_saw}
 
@@ -59,7 +57,7 @@ module _ (on : Terms) (command : Command) (l m : KnownLocked) (c d : CpuInRun) w
   pub lock_served : (seen : LockedState) (answer : LineAnswer) → IsTriedInVain command (locked_state l c) seen.cpu → OnlySaw on.table [] l seen.locked
       → Gains [] (locked_state l c) seen → (OnlySettles command → seen ≡ locked_state l c)
       → ServesUnderLock on.table on.is_explained command answer seen (locked_state m d) → ServesAnswer on command (locked_state l c) (locked_state m d) answer
-  lock_served seen (answer.Served reply) tried saw gains stays under = record {
+  lock_served seen (answer.Served outcome) tried saw gains stays under = record {
     steps = under.steps;
     answered = record { seen = seen; tried = tried; only_saw = saw; served = under.served };
     gains = gains_both (own_past l.machine.run.past) (own_past c.past) [] (own_past seen.locked.machine.run.past) (own_past seen.cpu.past) under.steps
@@ -132,27 +130,27 @@ is_settle (Units path) settles blocks show stock units = absurd (units path refl
 is_settle command settles blocks show stock units = absurd settles
 
 -- a command that was answered by settling only settles
-pub value_settles : (on : Terms) (command : Command) (before after : LockedState) (ledger : Ledger) (said : AnswerValue)
-    → ServesAnswer on command before after (answer_of ledger said) → said ≡ value.Settled → OnlySettles command
-value_settles on command before after ledger said serves is =
-    (subst (λ (v : AnswerValue). AnswersCommand on.is_explained command (transition on.table before serves.steps after) (answer_of ledger v)) is serves.answered).answers.is_answer.0
+pub value_settles : (on : Terms) (command : Command) (before after : LockedState) (said : LineAnswer)
+    → ServesAnswer on command before after said → said ≡ answer.Settled → OnlySettles command
+value_settles on command before after said serves is =
+    (subst (λ (a : LineAnswer). AnswersCommand on.is_explained command (transition on.table before serves.steps after) a) is serves.answered).answers.is_answer.0
 
 -- the same of one that was answered under the lock
-pub locked_settles : (t : KnownTable) (command : Command) (before after : LockedState) (ledger : Ledger) (said : AnswerValue)
-    → AnswersLocked t command (answer_of ledger said) before after → said ≡ value.Settled → OnlySettles command
-locked_settles t command before after ledger said answers is =
-    (subst (λ (v : AnswerValue). AnswersLocked t command (answer_of ledger v) before after) is answers).is_answer.0
+pub locked_settles : (t : KnownTable) (command : Command) (before after : LockedState) (said : LineAnswer)
+    → AnswersLocked t command said before after → said ≡ answer.Settled → OnlySettles command
+locked_settles t command before after said answers is =
+    (subst (λ (a : LineAnswer). AnswersLocked t command a before after) is answers).is_answer.0
 
 -- ---- written
 
--- what is written of a value that isn't Settled
-pub value_text : (t : KnownTable) (is_explained : Bool) (command : Command) (ledger : Ledger) (said : AnswerValue) (left : LockedState) → said ≢ value.Settled
-    → IsAnswerText t is_explained command (answer_of ledger said)
-    (reasoned_text is_explained (answer_of ledger said) (borrower_of (head_named command) left.locked.machine)
-    ++ explanation_if (is_noted (answer_of ledger said) && is_explained) (path_removed command) left.locked.machine) left
-value_text t is_explained command ledger (value.Served outcome) left other = refl
-value_text t is_explained command ledger value.Settled left other = absurd (other refl)
-value_text t is_explained command ledger (value.Unlocked said) left other = refl
+-- what is written of an answer that isn't Settled
+pub value_text : (t : KnownTable) (is_explained : Bool) (command : Command) (said : LineAnswer) (left : LockedState) → said ≢ answer.Settled
+    → IsAnswerText t is_explained command said
+    (reasoned_text is_explained (answer_text left.locked.machine.ledger said) (fault_in said) (borrower_of (head_named command) left.locked.machine)
+    ++ explanation_if (is_noted said && is_explained) (path_removed command) left.locked.machine) left
+value_text t is_explained command (answer.Served outcome) left other = refl
+value_text t is_explained command answer.Settled left other = absurd (other refl)
+value_text t is_explained command (answer.Unlocked said) left other = refl
 
 -- what a command writes that only settled its CPU, by which command it is
 pub settled_written : {Z T E : Type 0} (t : KnownTable) (is_explained : Bool) (command named : Command) (left : LockedState) (r : Result T E)
@@ -162,26 +160,25 @@ pub settled_written : {Z T E : Type 0} (t : KnownTable) (is_explained : Bool) (c
 settled_written t is_explained command named left r old new text is told added =
     record { text = text; so = subst (λ (x : Command). IsSettledText t is_explained x text left) (sym is) told; added = added }
 
-module _ (answer : LineAnswer) (lent : Option ℕ) (removed : List ℕ) (machine : KnownMachine) (before : List ℕ) where
+module _ (said : List ℕ) (refusal : Option Fault) (lent : Option ℕ) (removed : List ℕ) (machine : KnownMachine) (before : List ℕ) where
   -- without a reason and an explanation
-  pub plainly : (noted : Bool) (after : List ℕ) → after ≡ before ++ answer_text answer
-      → after ≡ before ++ (reasoned_text false answer lent ++ explanation_if (noted && false) removed machine)
-  plainly true after is = is ∙ ap (λ (l : List ℕ). before ++ l) (sym (append-nil (answer_text answer)))
-  plainly false after is = is ∙ ap (λ (l : List ℕ). before ++ l) (sym (append-nil (answer_text answer)))
+  pub plainly : (noted : Bool) (after : List ℕ) → after ≡ before ++ said
+      → after ≡ before ++ (reasoned_text false said refusal lent ++ explanation_if (noted && false) removed machine)
+  plainly true after is = is ∙ ap (λ (l : List ℕ). before ++ l) (sym (append-nil said))
+  plainly false after is = is ∙ ap (λ (l : List ℕ). before ++ l) (sym (append-nil said))
 
   -- with both
-  pub with_both : {T E : Type 0} (r : Result T E) (noted : Bool) (mid more after : List ℕ) → mid ≡ before ++ answer_text answer
-      → more ≡ mid ++ refusal_reason_text (fault_in answer) lent → IfOk r (λ _. after ≡ more ++ explanation_if noted removed machine)
-      → IfOk r (λ _. after ≡ before ++ (reasoned_text true answer lent ++ explanation_if (noted && true) removed machine))
+  pub with_both : {T E : Type 0} (r : Result T E) (noted : Bool) (mid more after : List ℕ) → mid ≡ before ++ said
+      → more ≡ mid ++ refusal_reason_text refusal lent → IfOk r (λ _. after ≡ more ++ explanation_if noted removed machine)
+      → IfOk r (λ _. after ≡ before ++ (reasoned_text true said refusal lent ++ explanation_if (noted && true) removed machine))
   with_both (Ok x) noted mid more after first second third =
       let told = explanation_if noted removed machine in
-      let said = answer_text answer in
-      let why = refusal_reason_text (fault_in answer) lent in
+      let why = refusal_reason_text refusal lent in
       third ∙ (ap (λ (l : List ℕ). l ++ told) (second ∙ ap (λ (l : List ℕ). l ++ why) first ∙ append_assoc before said why)
       ∙ append_assoc before (said ++ why) told) ∙ all noted
     where
-      all : (n : Bool) → before ++ ((answer_text answer ++ refusal_reason_text (fault_in answer) lent) ++ explanation_if n removed machine)
-          ≡ before ++ (reasoned_text true answer lent ++ explanation_if (n && true) removed machine)
+      all : (n : Bool) → before ++ ((said ++ refusal_reason_text refusal lent) ++ explanation_if n removed machine)
+          ≡ before ++ (reasoned_text true said refusal lent ++ explanation_if (n && true) removed machine)
       all true = refl
       all false = refl
   with_both (Err e) noted mid more after first second third = tt

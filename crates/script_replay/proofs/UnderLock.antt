@@ -1,9 +1,8 @@
 -- A command between the Lock and the Unlock that the watch takes. Serves `serve_under_lock`, `serve_frame_under_lock`.
-use Rattle.std.proofs.Common.{◌≡◌, ◌≢◌, ℕ, ◌++◌, Bool, [], ◌∷◌, ap, inr, refl, subst, sym}
+use Rattle.std.proofs.Common.{◌≡◌, ◌≢◌, ℕ, ◌++◌, Bool, [], ◌∷◌, inr, refl, subst, sym}
 use Rattle.std.specs.Prelude.{◌⊎◌}
 use Rattle.boot_words.specs.{AllOf, own_past, GrewByAll, changes_of, KnownTable}
 use Rattle.boot_words.proofs.Gaining.{of_two_seats, visit_gains}
-use Rattle.group_charge.specs.Charges.{Ledger}
 use Rattle.step_rules.specs.declared.step.Step.{Step}
 use Rattle.step_rules.specs.declared.step.Answer.{Answer}
 use Rattle.step_rules.specs.State.{State}
@@ -14,10 +13,9 @@ use Rattle.mem_history.specs.Whole.{under_lock}
 use Rattle.mem_system.specs.declared.command.LockedCommand.{LockedCommand}
 use Rattle.mem_system.specs.declared.outcome.Outcome.{Outcome}
 use Rattle.mem_system.specs.{CpuInRun, KnownLocked, IsServed, locked_state}
-use Rattle.reply_texts.specs.LineAnswer.{LineAnswer}
+use Rattle.reply_texts.specs.declared.line_answer.LineAnswer.{LineAnswer}
 use Rattle.script_lines.specs.declared.line.Command.{Command}
-use Rattle.script_replay.specs.declared.answer_value.AnswerValue.{AnswerValue}
-use Rattle.script_replay.specs.{AnswersLocked, Gains, OnlyWatched, ServesUnderLock, locked_with_detail_notes, NamesItsGroups, answer_of}
+use Rattle.script_replay.specs.{AnswersLocked, Gains, OnlyWatched, ServesUnderLock, locked_with_detail_notes, NamesItsGroups}
 
 -- ---- the seats of the steps under the lock
 
@@ -56,10 +54,10 @@ module _ (t : KnownTable) (is_explained : Bool) (command : Command) (before foun
       (subst (λ (n : ℕ). (other : ℕ) → other ≢ 0 → other ≢ n → changes_of other steps ≡ 0) (sym in_run) (of_two_seats p steps all)))
 
   -- the watch took a Lock before the command, and an Unlock after it
-  served_locked : (answer : LineAnswer) → AnswersLocked t command answer (locked_state found c) (locked_state left d)
+  pub served_locked : (answer : LineAnswer) → AnswersLocked t command answer (locked_state found c) (locked_state left d)
       → ServesUnderLock t is_explained command answer (locked_state before c) (locked_state after d)
   served_locked answer answers = record {
-    steps = under_lock c.part.number answers.replies.serves.visit.steps;
+    steps = under_lock c.part.number answers.serves.visit.steps;
     served = record {
       found = found;
       left = left;
@@ -68,17 +66,9 @@ module _ (t : KnownTable) (is_explained : Bool) (command : Command) (before foun
       unlock = subst (λ (n : ℕ). OnlyWatched (cpu_makes n Unlock step_answer.Done ∷ []) left after) named unlock;
       steps_are = refl;
     };
-    gains = visit_made answers.replies.serves.served answers.replies.serves.given answers.replies.serves.visit;
+    gains = visit_made answers.serves.served answers.serves.given answers.serves.visit;
   }
 
   -- the charges are those that the command left
-  same_ledger : left.machine.ledger ≡ after.machine.ledger
-  same_ledger = sym (ap (λ (l : KnownLocked). l.machine.ledger) unlock.locked)
-
-  pub value_locked : (value : AnswerValue) → AnswersLocked t command (answer_of left.machine.ledger value) (locked_state found c) (locked_state left d)
-      → ServesUnderLock t is_explained command (answer_of after.machine.ledger value) (locked_state before c) (locked_state after d)
-  value_locked value answers = served_locked (answer_of after.machine.ledger value)
-      (subst (λ (l : Ledger). AnswersLocked t command (answer_of l value) (locked_state found c) (locked_state left d)) same_ledger answers)
-
-  pub groups_locked : (value : AnswerValue) → NamesItsGroups left.machine.ledger value → NamesItsGroups after.machine.ledger value
-  groups_locked value groups = subst (λ (l : Ledger). NamesItsGroups l value) same_ledger groups
+  pub groups_locked : (answer : LineAnswer) → NamesItsGroups left.machine.ledger answer → NamesItsGroups after.machine.ledger answer
+  groups_locked answer groups = subst (λ (l : KnownLocked). NamesItsGroups l.machine.ledger answer) (sym unlock.locked) groups

@@ -9,7 +9,7 @@ use Rattle.mem_system.specs.{CpuInRun, between_locks, KnownSystem, IsSound, Know
 use Rattle.mem_system.specs.declared.command.LockedCommand.{LockedCommand}
 use Rattle.mem_system.specs.declared.outcome.Outcome.{Outcome}
 use Rattle.reply_texts.specs.Answers.{unlocked_text}
-use Rattle.reply_texts.specs.LineAnswer.{LineAnswer}
+use Rattle.reply_texts.specs.declared.line_answer.LineAnswer.{LineAnswer}
 use Rattle.reply_texts.specs.declared.steps.UnlockedAnswer.{UnlockedAnswer}
 use Rattle.script_lines.specs.declared.line.Command.{Command}
 use Rattle.script_lines.specs.declared.line.Command.TheVariants.{Alloc}
@@ -76,7 +76,7 @@ module _ (on : KnownSystem) (command : Command) (c d : CpuInRun) where
           tells = inr (record { seen = seen; needs = needs; writes = is.1 });
           grew = grew_both c.past [] seen.past is.0 d.past needs.grew
               (subst (λ (r : Run). GrewByChanges seen.past r d.past) (sym is.1.steps_are)
-              (served_grew on.table visit.served.replies.serves.served visit.served.replies.serves.given visit.found visit.left seen d visit.served.replies.serves.visit));
+              (served_grew on.table visit.served.serves.served visit.served.serves.given visit.found visit.left seen d visit.served.serves.visit));
         },
       )
 
@@ -85,7 +85,7 @@ pub visit_written : (on : KnownSystem) (command : Command) (l m : KnownLocked) (
     → l.sizes ≡ on.sizes → IsSound on.table l → AnswersLocked on.table command answer (locked_state l c) (locked_state m d) → IsSound on.table m
     → IsAnswerText on.table false command answer text (locked_state m d) → (steps : Run) × WritesByVisit on command steps c d text
 visit_written on command l m c d answer text sized before answers left told = (
-  between_locks c.part.number answers.replies.serves.visit.steps,
+  between_locks c.part.number answers.serves.visit.steps,
   record {
     answer = answer;
     visited = record { found = l; left = m; sizes_are = sized; sound_before = before; served = answers; sound_after = left };

@@ -23,18 +23,19 @@ use Rattle.mem_machine.specs.{KnownMachine, left_by, with_run, with_detail_notes
 use Rattle.mem_history.specs.{under_lock, put_answer}
 use Rattle.mem_system.specs.declared.text_command.TextCommand.{TextCommand}
 use Rattle.mem_system.specs.declared.text_command.TextCommand.TheVariants as cmd
-use Rattle.mem_system.specs.declared.command.ReplyWithText.{ReplyWithText}
-use Rattle.mem_system.specs.{CpuInRun, KnownLocked, UnitsAt, LockedState, locked_state, RepliesTo}
+use Rattle.mem_system.specs.declared.outcome.Outcome.{Outcome}
+use Rattle.mem_system.specs.{CpuInRun, KnownLocked, UnitsAt, LockedState, locked_state, ServesText}
 use Rattle.mem_system.specs.Visits.{Transition, transition}
-use Rattle.reply_texts.specs.LineAnswer.{LineAnswer}
-use Rattle.reply_texts.specs.LineAnswer as answer
-use Rattle.reply_texts.specs.Answers.{answer_text}
+use Rattle.reply_texts.specs.declared.line_answer.LineAnswer.{LineAnswer}
+use Rattle.reply_texts.specs.declared.line_answer.LineAnswer.TheVariants as answer
+use Rattle.reply_texts.specs.Answers.{answer_text, settled_text}
+use Rattle.reply_texts.specs.Replies.{refusal_text}
 use Rattle.reply_texts.specs.declared.steps.UnlockedAnswer.{UnlockedAnswer}
 use Rattle.reply_texts.specs.declared.steps.UnlockedAnswer.TheVariants as unlocked
 use Rattle.script_lines.specs.declared.line.Command.{Command}
 use Rattle.script_lines.specs.declared.line.Command.TheVariants.{Alloc, Fast, Release, Get, Put, Settle, Blocks, Show, Stock, Units}
 use Rattle.script_replay.specs.Commands.{OnlySettles, locked_command_of, head_named, path_removed}
-use Rattle.script_replay.specs.Reasons.{borrower_of, reasoned_text}
+use Rattle.script_replay.specs.Reasons.{borrower_of, fault_in, reasoned_text}
 use Rattle.script_replay.specs.Terms.{Terms}
 
 -- ---- texts that a call adds
@@ -194,20 +195,20 @@ ServesUnlocked command call answer =
 
 -- ---- under the lock
 
--- what a command is answered that is served under the lock: the reply to its `TextCommand`, or that its CPU was only
+-- what a command is answered that is served under the lock: the outcome of its `TextCommand`, or that its CPU was only
 -- settled
-abbrev pub IsAnswerOf : Command → (asked : TextCommand) (reply : ReplyWithText) → LineAnswer → Type 0
-IsAnswerOf command asked reply (answer.Served said) = (locked_command_of command ≡ Some asked) × (said ≡ reply)
-IsAnswerOf command asked reply answer.Settled = OnlySettles command × (asked ≡ cmd.Settle)
-IsAnswerOf command asked reply (answer.Unlocked said) = ⊥
+abbrev pub IsAnswerOf : Command → (asked : TextCommand) (outcome : Outcome) → LineAnswer → Type 0
+IsAnswerOf command asked outcome (answer.Served said) = (locked_command_of command ≡ Some asked) × (said ≡ outcome)
+IsAnswerOf command asked outcome answer.Settled = OnlySettles command × (asked ≡ cmd.Settle)
+IsAnswerOf command asked outcome (answer.Unlocked said) = ⊥
 
 -- the command was served under the lock with this answer
 pub record AnswersLocked (table : KnownTable) (command : Command) (answer : LineAnswer) (before after : LockedState)
     : Type 0 where
   pub asked : TextCommand
-  pub reply : ReplyWithText
-  pub is_answer : IsAnswerOf command asked reply answer
-  pub replies : RepliesTo table asked reply before after
+  pub outcome : Outcome
+  pub is_answer : IsAnswerOf command asked outcome answer
+  pub serves : ServesText table asked outcome before after
 
 -- ---- with what lies behind the lock: no lock is taken by value, but in the history the steps are between a Lock and
 -- an Unlock, which the watch takes
@@ -225,7 +226,7 @@ pub record IsServedUnderLock (is_explained : Bool) (command : Command) (answer :
       (locked_state found call.before.cpu) (locked_state left call.after.cpu)
   pub unlock : OnlyWatched (cpu_makes call.before.cpu.part.number step.Unlock step_answer.Done ∷ [])
       left call.after.locked
-  pub steps_are : call.steps ≡ under_lock call.before.cpu.part.number answers.replies.serves.visit.steps
+  pub steps_are : call.steps ≡ under_lock call.before.cpu.part.number answers.serves.visit.steps
 
 -- the command of a CPU was served under the lock with this answer, by some steps
 pub record ServesUnderLock (table : KnownTable) (is_explained : Bool) (command : Command) (answer : LineAnswer)
@@ -240,19 +241,19 @@ IsTriedInVain (Alloc path zero) before seen = GetsNoneFast path.now before seen
 IsTriedInVain command before seen = NeedsLock command before.cpu seen
 
 -- the command was tried in vain without the lock, which left `seen`, and then served under it
-pub record RepliesServed (is_explained : Bool) (command : Command) (reply : ReplyWithText)
+pub record ServesTried (is_explained : Bool) (command : Command) (outcome : Outcome)
     (call : Transition LockedState) : Type 0 where
   pub seen : LockedState
   pub tried : IsTriedInVain command call.before seen.cpu
   pub only_saw : OnlySaw call.table [] call.before.locked seen.locked
-  pub served : IsServedUnderLock is_explained command (answer.Served reply)
+  pub served : IsServedUnderLock is_explained command (answer.Served outcome)
       (transition call.table seen call.steps call.after)
 
 -- ---- any command
 
 -- The answer of a command. If it only settles its CPU, its text is read from what it left.
 abbrev pub AnswersCommand : (is_explained : Bool) → Command → Transition LockedState → LineAnswer → Type 0
-AnswersCommand is_explained command call (answer.Served reply) = RepliesServed is_explained command reply call
+AnswersCommand is_explained command call (answer.Served outcome) = ServesTried is_explained command outcome call
 AnswersCommand is_explained command call answer.Settled = IsServedUnderLock is_explained command answer.Settled call
 AnswersCommand is_explained command call (answer.Unlocked said) = ServesUnlocked command call said
 
@@ -267,7 +268,7 @@ pub record ServesAnswer (terms : Terms) (command : Command) (before after : Lock
 
 -- there are notes of the command: it was served under the lock, and could ask for memory there
 abbrev pub is_noted : LineAnswer → Bool
-is_noted (answer.Served reply) = true
+is_noted (answer.Served outcome) = true
 is_noted other = false
 
 -- if it is asked for, the explanation of a command that was served under the lock: what it drained, reclaimed and
@@ -282,12 +283,12 @@ explanation_if false removed machine = []
 abbrev pub IsUnitsText : KnownTable → (is_explained : Bool) → (path text : List ℕ) (machine : KnownMachine) → Type 0
 IsUnitsText table is_explained path text machine =
     UnitsAt table (number_at machine.ledger.groups path)
-    (text ≡ reasoned_text is_explained (answer.Unlocked (unlocked.Refused NoGroup)) None) (λ shown. text ≡ shown)
-    machine machine
+    (text ≡ reasoned_text is_explained (refusal_text NoGroup) (Some NoGroup) None)
+    (λ shown. text ≡ shown) machine machine
 
 -- what a command writes that only settles its CPU, from the settled state
 abbrev pub IsSettledText : KnownTable → (is_explained : Bool) → Command → (text : List ℕ) (settled : LockedState) → Type 0
-IsSettledText table is_explained Settle text settled = text ≡ answer_text answer.Settled
+IsSettledText table is_explained Settle text settled = text ≡ settled_text
 IsSettledText table is_explained Blocks text settled = text ≡ blocks_text settled.locked.machine.blocks
 IsSettledText table is_explained Show text settled = text ≡ show_text settled.locked.machine
 IsSettledText table is_explained Stock text settled =
@@ -302,7 +303,8 @@ abbrev pub IsAnswerText : KnownTable → (is_explained : Bool) → Command → L
     → Type 0
 IsAnswerText table is_explained command answer.Settled text left = IsSettledText table is_explained command text left
 IsAnswerText table is_explained command answer text left =
-    text ≡ reasoned_text is_explained answer (borrower_of (head_named command) left.locked.machine)
+    text ≡ reasoned_text is_explained (answer_text left.locked.machine.ledger answer) (fault_in answer)
+    (borrower_of (head_named command) left.locked.machine)
     ++ explanation_if (is_noted answer && is_explained) (path_removed command) left.locked.machine
 
 -- the answer of a command, as text

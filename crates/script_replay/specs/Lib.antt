@@ -25,7 +25,7 @@ pub use Rattle.script_replay.specs.Numbers.{SaysNumbered, numbered_text, text_wi
 pub use Rattle.script_replay.specs.Ranges.{ArgumentsInRange, CommandInRange, CpuCommandInRange, LineInRange}
 pub use Rattle.script_replay.specs.Reasons.{borrower_of, fault_in, reasoned_text, refusal_reason_text}
 pub use Rattle.script_replay.specs.Terms.{known_system, form_of, form_terms, numbered_terms, terms}
-pub use Rattle.script_replay.specs.ValueAnswers.{NamesItsGroups, SaysCommand, answer_of}
+pub use Rattle.script_replay.specs.ValueAnswers.{NamesItsGroups, SaysCommand}
 pub use Rattle.script_replay.specs.Visits.{AnswersWithoutVisitBySteps, AnswersWithoutVisit, GrewByChanges, NeedsVisit, ServesByVisits, TriesInVain}
 pub use Rattle.script_replay.specs.Visits.{VisitsAll, VisitsLine, WritesByVisit}
 pub use Rattle.script_replay.specs.Threads.{AreAllAnswers, heading, workers_from}

@@ -6,16 +6,15 @@ use Rattle.machine_texts.specs.Refused.{refused_text}
 use Rattle.mem_machine.specs.{frame_state_at, place_of, KnownMachine}
 use Rattle.mem_machine.specs.declared.frame_state.Place.{Place}
 use Rattle.mem_machine.specs.declared.frame_state.Place.TheVariants as place
-use Rattle.mem_system.specs.declared.command.ReplyWithText.TheVariants.{OverLimit, Refused}
-use Rattle.reply_texts.specs.LineAnswer.{LineAnswer}
-use Rattle.reply_texts.specs.LineAnswer as answer
-use Rattle.reply_texts.specs.Answers.{answer_text}
+use Rattle.mem_system.specs.declared.outcome.Outcome.TheVariants.{OverLimit, Refused}
+use Rattle.reply_texts.specs.declared.line_answer.LineAnswer.{LineAnswer}
+use Rattle.reply_texts.specs.declared.line_answer.LineAnswer.TheVariants as answer
 use Rattle.reply_texts.specs.declared.steps.UnlockedAnswer.TheVariants as unlocked
 
 -- the refusal that an answer is, if it is one
 abbrev pub fault_in : LineAnswer → Option Fault
 fault_in (answer.Served (Refused reason)) = Some reason
-fault_in (answer.Served (OverLimit group path)) = Some (fault.OverLimit group)
+fault_in (answer.Served (OverLimit group)) = Some (fault.OverLimit group)
 fault_in (answer.Unlocked (unlocked.Refused reason)) = Some reason
 fault_in other = None
 
@@ -35,6 +34,6 @@ refusal_reason_text None lent = []
 refusal_reason_text (Some reason) lent = refused_text reason lent
 
 -- the text of an answer; if it is to be explained and is a refusal, it continues with the line that says why
-abbrev pub reasoned_text : (is_explained : Bool) → LineAnswer → (lent : Option ℕ) → List ℕ
-reasoned_text false answer lent = answer_text answer
-reasoned_text true answer lent = answer_text answer ++ refusal_reason_text (fault_in answer) lent
+abbrev pub reasoned_text : (is_explained : Bool) → (said : List ℕ) → Option Fault → (lent : Option ℕ) → List ℕ
+reasoned_text false said refusal lent = said
+reasoned_text true said refusal lent = said ++ refusal_reason_text refusal lent

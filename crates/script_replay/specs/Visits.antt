@@ -9,9 +9,8 @@ use Rattle.cpu_part.specs.declared.answers.Fast.TheVariants.{Got}
 use Rattle.mem_system.specs.{CpuInRun, between_locks, KnownSystem, SeenBehindLock, LockedState, locked_state, IsVisited}
 use Rattle.group_tree.specs.Groups.{number_at}
 use Rattle.group_tree.specs.declared.fault.Fault.TheVariants.{NoGroup}
-use Rattle.reply_texts.specs.LineAnswer.{LineAnswer}
-use Rattle.reply_texts.specs.LineAnswer as answer
-use Rattle.reply_texts.specs.Answers.{answer_text}
+use Rattle.reply_texts.specs.declared.line_answer.LineAnswer.{LineAnswer}
+use Rattle.reply_texts.specs.Answers.{unlocked_text}
 use Rattle.reply_texts.specs.declared.steps.UnlockedAnswer.{UnlockedAnswer}
 use Rattle.reply_texts.specs.declared.steps.UnlockedAnswer.TheVariants as unlocked
 use Rattle.script_lines.specs.declared.line.Command.{Command}
@@ -86,7 +85,7 @@ pub record WritesByVisit (system : KnownSystem) (command : Command) (steps : Run
   pub answer : LineAnswer
   pub visited : IsVisited system.table system.sizes (AnswersLocked system.table command answer)
       before after
-  pub steps_are : steps ≡ between_locks before.part.number visited.served.replies.serves.visit.steps
+  pub steps_are : steps ≡ between_locks before.part.number visited.served.serves.visit.steps
   pub told : IsAnswerText system.table false command answer text (locked_state visited.left after)
 
 -- the text of a command that was answered without a visit
@@ -94,7 +93,7 @@ pub record SaysWithoutVisit (system : KnownSystem) (command : Command) (steps : 
     (text : List ℕ) : Type 0 where
   pub said : UnlockedAnswer
   pub answers : AnswersWithoutVisit system command steps before after said
-  pub text_is : text ≡ answer_text (answer.Unlocked said)
+  pub text_is : text ≡ unlocked_text said
 
 -- The text of a command that was tried in vain. The visit may find another value behind the lock than the try did.
 pub record SaysByVisit (system : KnownSystem) (command : Command) (steps : Run) (before after : CpuInRun)

@@ -7,14 +7,14 @@ ghost use Rattle.script_lines.specs.declared.line.Command.TheVariants.{Alloc};
 ghost use Rattle.script_replay.specs.Commands.{HasValueAnswer};
 ghost use Rattle.script_replay.specs.Lines.{system_state};
 ghost use Rattle.script_replay.specs.Ranges.{CpuCommandInRange};
-ghost use Rattle.script_replay.specs.ValueAnswers.{NamesItsGroups, SaysCommand, answer_of};
+ghost use Rattle.script_replay.specs.ValueAnswers.{NamesItsGroups, SaysCommand};
 
-use crate::answer_value::AnswerValue;
 use crate::replays::prove_sound;
 use crate::server::{serve_alloc_of, serve_command};
 use cpu_part::{BootName, Tables};
 use group_tree::group::GroupId;
 use mem_system::{Cpu, Locked};
+use reply_texts::LineAnswer;
 use script_lines::line::Command;
 
 /// Serves a command for the CPU of this number, from 1, as `replay` does, and returns its answer as a value. All that
@@ -29,12 +29,11 @@ pub fn serve_value<N: BootName>(
     cpus: &mut [Cpu<N>],
     cpu: u32,
     command: &Command<'_>,
-) -> AnswerValue
+) -> LineAnswer
     requires there { CpuCommandInRange N.table.frames (length cpus.old) cpu command.now }
     requires has_value { HasValueAnswer command.now }
     ensures answer { SaysCommand N.table cpu command.now
-        (system_state locked.old cpus.old) (system_state locked.new cpus.new)
-        (answer_of locked.new.machine.ledger result) }
+        (system_state locked.old cpus.old) (system_state locked.new cpus.new) result }
     ensures groups { NamesItsGroups locked.new.machine.ledger result }
 {
     let at = (cpu - 1) as usize;
@@ -53,14 +52,13 @@ pub fn alloc_value<N: BootName>(
     cpu: u32,
     group: GroupId,
     order: u32,
-) -> AnswerValue
+) -> LineAnswer
     requires low { 1 ≤ cpu }
     requires high { cpu ≤ length cpus.old }
     requires there { IsTrue (has_group locked.old.machine.ledger.groups group) }
     ensures answer { (path : Bor (List ℕ)) → number_at locked.old.machine.ledger.groups path.now ≡ Some group
         → SaysCommand N.table cpu (Alloc path order)
-        (system_state locked.old cpus.old) (system_state locked.new cpus.new)
-        (answer_of locked.new.machine.ledger result) }
+        (system_state locked.old cpus.old) (system_state locked.new cpus.new) result }
     ensures groups { NamesItsGroups locked.new.machine.ledger result }
 {
     let at = (cpu - 1) as usize;

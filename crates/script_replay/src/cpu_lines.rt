@@ -7,9 +7,9 @@ ghost use Rattle.script_replay.specs.Terms.{known_system};
 ghost use Rattle.script_replay.specs.CpuLines.{LineCommandInRange, ServesOwn, ServesOwnBySteps, worker};
 ghost use Rattle.step_rules.specs.After.{Run};
 
-use crate::{Visitor, visit_line, visit_numbered_line};
+use crate::{Gate, Visitor, visit_line, visit_numbered_line};
 use cpu_part::BootName;
-use mem_system::{Cpu, Gate};
+use mem_system::Cpu;
 use script_lines::line::Line;
 use std::alloc::{AllocError, Global};
 use std::sync::Wait;

@@ -13,13 +13,13 @@ ghost use Rattle.script_lines.specs.declared.line.Command.TheVariants.{Alloc};
 ghost use Rattle.script_replay.specs.Answers.{AnswersLocked, OnlyWatched, ServesUnderLock, locked_with_detail_notes};
 ghost use Rattle.script_replay.specs.Commands.{OnlySettles, locked_command_of};
 ghost use Rattle.script_replay.specs.Ranges.{CommandInRange};
-ghost use Rattle.script_replay.specs.ValueAnswers.{NamesItsGroups, answer_of};
+ghost use Rattle.script_replay.specs.ValueAnswers.{NamesItsGroups};
 
-use crate::answer_value::AnswerValue;
 use crate::commands::locked_command_of;
 use cpu_part::{BootName, Tables};
 use group_tree::group::GroupId;
 use mem_system::{Cpu, Locked, LockedCommand, serve_outcome, serve_settle, serve_text};
+use reply_texts::LineAnswer;
 use script_lines::line::Command;
 use step_rules::step::{Action, Answer};
 
@@ -70,19 +70,19 @@ pub(crate) fn serve_locked<N: BootName>(
     tables: &Tables<N>,
     cpu: &mut Cpu<N>,
     command: &Command<'_>,
-) -> AnswerValue
+) -> LineAnswer
     requires in_range { CommandInRange N.table.frames command.now }
     requires settles { locked_command_of command.now ≡ None → OnlySettles command.now }
-    ensures answers { AnswersLocked N.table command.now (answer_of locked.new.machine.ledger result)
-        (locked_state locked.old cpu.old) (locked_state locked.new cpu.new) }
+    ensures answers { AnswersLocked N.table command.now result (locked_state locked.old cpu.old)
+        (locked_state locked.new cpu.new) }
     ensures groups { NamesItsGroups locked.new.machine.ledger result }
     ensures last { cpu.new.last ≡ stock_left N.table locked.new.machine cpu.new.part.number }
 {
     match locked_command_of(command) {
-        Some(cmd) => AnswerValue::Served(serve_text(locked, tables, cpu, &cmd)),
+        Some(cmd) => LineAnswer::Served(serve_text(locked, tables, cpu, &cmd)),
         None => {
             serve_settle(locked, tables, cpu);
-            AnswerValue::Settled
+            LineAnswer::Settled
         }
     }
 }
@@ -95,10 +95,10 @@ pub(crate) fn serve_under_lock<N: BootName>(
     cpu: &mut Cpu<N>,
     command: &Command<'_>,
     is_explained: bool,
-) -> AnswerValue
+) -> LineAnswer
     requires in_range { CommandInRange N.table.frames command.now }
     requires settles { locked_command_of command.now ≡ None → OnlySettles command.now }
-    ensures served { ServesUnderLock N.table is_explained command.now (answer_of locked.new.machine.ledger result)
+    ensures served { ServesUnderLock N.table is_explained command.now result
         (locked_state locked.old cpu.old) (locked_state locked.new cpu.new) }
     ensures groups { NamesItsGroups locked.new.machine.ledger result }
     ensures last { cpu.new.last ≡ stock_left N.table locked.new.machine cpu.new.part.number }
@@ -119,10 +119,10 @@ pub(crate) fn alloc_under_lock<N: BootName>(
     group: GroupId,
     order: u32,
     is_explained: bool,
-) -> AnswerValue
+) -> LineAnswer
     requires there { IsTrue (has_group locked.old.machine.ledger.groups group) }
     ensures served { (path : Bor (List ℕ)) → number_at locked.old.machine.ledger.groups path.now ≡ Some group
-        → ServesUnderLock N.table is_explained (Alloc path order) (answer_of locked.new.machine.ledger result)
+        → ServesUnderLock N.table is_explained (Alloc path order) result
         (locked_state locked.old cpu.old) (locked_state locked.new cpu.new) }
     ensures groups { NamesItsGroups locked.new.machine.ledger result }
     ensures last { cpu.new.last ≡ stock_left N.table locked.new.machine cpu.new.part.number }
@@ -131,5 +131,5 @@ pub(crate) fn alloc_under_lock<N: BootName>(
     begin_command(locked, cpu_number, is_explained);
     let outcome = serve_outcome(locked, tables, cpu, &LockedCommand::Alloc { group, order });
     end_command(locked, cpu_number);
-    AnswerValue::Served(outcome)
+    LineAnswer::Served(outcome)
 }

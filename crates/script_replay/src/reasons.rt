@@ -2,23 +2,18 @@
 
 ghost use Rattle.std.specs.Prelude.{◌≡◌, ◌<◌, ◌++◌, IfOk, IfSome};
 ghost use Rattle.std.specs.String.{string_bytes};
-ghost use Rattle.mem_system.specs.Outcomes.{HasItsGroups, reply_of};
-ghost use Rattle.reply_texts.specs.LineAnswer.{Served};
+ghost use Rattle.reply_texts.specs.declared.line_answer.LineAnswer.TheVariants.{Served};
 ghost use Rattle.script_replay.specs.Commands.{head_named};
 ghost use Rattle.script_replay.specs.Ranges.{CommandInRange};
 ghost use Rattle.script_replay.specs.Reasons.{borrower_of, fault_in, refusal_reason_text};
-ghost use Rattle.script_replay.specs.ValueAnswers.{NamesItsGroups, answer_of};
 
-use crate::answer_value::AnswerValue;
 use crate::commands::head_named;
-use control_files::file::file_text;
 use cpu_part::{BootName, Tables};
-use group_charge::charges::Charges;
 use group_tree::fault::Fault;
 use machine_texts::write_refused;
 use mem_machine::{Machine, Place};
 use mem_system::{Locked, Outcome};
-use reply_texts::UnlockedAnswer;
+use reply_texts::{LineAnswer, UnlockedAnswer};
 use script_lines::line::Command;
 use std::alloc::AllocError;
 
@@ -28,16 +23,15 @@ pub(crate) fn write_reason<N: BootName>(
     locked: &Locked<N>,
     tables: &Tables<N>,
     command: &Command<'_>,
-    value: &AnswerValue,
+    value: &LineAnswer,
     text: &mut String,
 ) -> Result<(), AllocError>
     requires in_range { CommandInRange N.table.frames command.now }
-    requires groups { NamesItsGroups locked.now.machine.ledger value.now }
     ensures { IfOk result (λ _. string_bytes text.new ≡ string_bytes text.old
-        ++ refusal_reason_text (fault_in (answer_of locked.now.machine.ledger value.now))
+        ++ refusal_reason_text (fault_in value.now)
         (borrower_of (head_named command.now) locked.now.machine)) }
 {
-    let Some(fault) = fault_in(locked.charges(), value) else {
+    let Some(fault) = fault_in(value) else {
         return Ok(());
     };
     let borrower = borrower_of(locked.machine(), tables, head_named(command));
@@ -45,29 +39,23 @@ pub(crate) fn write_reason<N: BootName>(
 }
 
 // The refusal that an answer is, if it is one.
-fn fault_in(charges: &Charges, value: &AnswerValue) -> Option<Fault>
-    requires { NamesItsGroups charges.now value.now }
-    ensures { result ≡ fault_in (answer_of charges.now value.now) }
+fn fault_in(value: &LineAnswer) -> Option<Fault>
+    ensures { result ≡ fault_in value.now }
 {
     match value {
-        AnswerValue::Served(outcome) => fault_of(charges, outcome),
-        AnswerValue::Unlocked(UnlockedAnswer::Refused(fault)) => Some(*fault),
+        LineAnswer::Served(outcome) => fault_of(outcome),
+        LineAnswer::Unlocked(UnlockedAnswer::Refused(fault)) => Some(*fault),
         _ => None,
     }
 }
 
 // The refusal that an outcome is, if it is one.
-fn fault_of(charges: &Charges, outcome: &Outcome) -> Option<Fault>
-    requires { HasItsGroups charges.now outcome.now }
-    ensures { result ≡ fault_in (Served (reply_of charges.now outcome.now)) }
+fn fault_of(outcome: &Outcome) -> Option<Fault>
+    ensures { result ≡ fault_in (Served outcome.now) }
 {
     match *outcome {
         Outcome::OverLimit(group) => Some(Fault::OverLimit { group }),
         Outcome::Refused(fault) => Some(fault),
-        Outcome::Text(group, file) => match file_text(charges, group, file) {
-            Ok(_) => None,
-            Err(fault) => Some(fault),
-        },
         _ => None,
     }
 }

@@ -10,9 +10,9 @@ ghost use Rattle.script_replay.specs.Threads.{AreAllAnswers, heading, workers_fr
 ghost use Rattle.script_replay.specs.Runs.{RunsLines, lines_before_go};
 
 use crate::cpu_lines::{Job, serve_own};
-use crate::{Visitor, replay_by_visits};
+use crate::{Gate, Visitor, replay_by_visits};
 use cpu_part::BootName;
-use mem_system::{Cpu, Gate, System};
+use mem_system::{Cpu, System};
 use script_lines::line::Line;
 use std::alloc::{AllocError, Global};
 use std::sync::Wait;

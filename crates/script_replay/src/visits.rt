@@ -14,13 +14,14 @@ ghost use Rattle.script_replay.specs.Visits.{VisitsLine, WritesByVisit};
 
 use crate::commands::frame_path;
 use crate::form::write_numbered;
+use crate::gates::{Gate, NoGate};
 use crate::locked_commands::serve_locked;
 use crate::replays::prove_sound;
 use crate::unlocked_commands::try_unlocked;
 use crate::writer::write_answer;
 use cpu_part::{BootName, Fast};
 use group_tree::fault::Fault;
-use mem_system::{Cpu, Gate, NoGate, System};
+use mem_system::{Cpu, System};
 use reply_texts::{UnlockedAnswer, write_unlocked};
 use script_lines::line::{Command, Line};
 use std::alloc::{AllocError, Global};

@@ -5,14 +5,13 @@ ghost use Rattle.std.specs.String.{string_bytes};
 ghost use Rattle.mem_machine.specs.Showing.{stock_left};
 ghost use Rattle.mem_system.specs.Visits.{locked_state};
 ghost use Rattle.reply_texts.specs.Answers.{answer_text};
-ghost use Rattle.script_replay.specs.declared.answer_value.AnswerValue.TheVariants.{Settled};
+ghost use Rattle.reply_texts.specs.declared.line_answer.LineAnswer.TheVariants.{Settled};
 ghost use Rattle.script_replay.specs.Answers.{AddsText, IsAnswerText, IsSettledText, IsUnitsText, explanation_if, is_noted};
 ghost use Rattle.script_replay.specs.Commands.{OnlySettles, head_named, path_removed};
 ghost use Rattle.script_replay.specs.Ranges.{CommandInRange};
-ghost use Rattle.script_replay.specs.Reasons.{borrower_of, reasoned_text};
-ghost use Rattle.script_replay.specs.ValueAnswers.{NamesItsGroups, answer_of};
+ghost use Rattle.script_replay.specs.Reasons.{borrower_of, fault_in, reasoned_text};
+ghost use Rattle.script_replay.specs.ValueAnswers.{NamesItsGroups};
 
-use crate::answer_value::AnswerValue;
 use crate::commands::path_removed;
 use crate::reasons::write_reason;
 use cpu_part::{BootName, Tables};
@@ -20,7 +19,7 @@ use group_charge::charges::Charges;
 use group_tree::fault::Fault;
 use machine_texts::{write_blocks, write_explanation, write_show};
 use mem_system::{Cpu, Locked, write_own_stock, write_units_at};
-use reply_texts::{UnlockedAnswer, write_outcome, write_settled, write_unlocked};
+use reply_texts::{LineAnswer, UnlockedAnswer, write_outcome, write_settled, write_unlocked};
 use script_lines::line::Command;
 use std::alloc::AllocError;
 
@@ -31,7 +30,7 @@ pub(crate) fn write_answer<N: BootName>(
     tables: &Tables<N>,
     cpu: &Cpu<N>,
     command: &Command<'_>,
-    value: &AnswerValue,
+    value: &LineAnswer,
     is_explained: bool,
     text: &mut String,
 ) -> Result<(), AllocError>
@@ -39,12 +38,12 @@ pub(crate) fn write_answer<N: BootName>(
     requires groups { NamesItsGroups locked.old.machine.ledger value.now }
     requires settles { value.now ≡ Settled → OnlySettles command.now }
     requires last { value.now ≡ Settled → cpu.now.last ≡ stock_left N.table locked.old.machine cpu.now.part.number }
-    ensures told { AddsText result text.old text.new (λ told. IsAnswerText N.table is_explained command.now
-        (answer_of locked.old.machine.ledger value.now) told (locked_state locked.old cpu.now)) }
+    ensures told { AddsText result text.old text.new (λ told.
+        IsAnswerText N.table is_explained command.now value.now told (locked_state locked.old cpu.now)) }
     ensures stays { locked.new ≡ locked.old }
 {
     match value {
-        AnswerValue::Settled => write_settled_cpu(locked, tables, cpu, command, is_explained, text),
+        LineAnswer::Settled => write_settled_cpu(locked, tables, cpu, command, is_explained, text),
         _ => write_value(locked, tables, command, value, is_explained, text),
     }
 }
@@ -89,7 +88,7 @@ fn write_units_or_refusal<N: BootName>(
     if is_there {
         return Ok(());
     }
-    let refused = AnswerValue::Unlocked(UnlockedAnswer::Refused(Fault::NoGroup));
+    let refused = LineAnswer::Unlocked(UnlockedAnswer::Refused(Fault::NoGroup));
     write_value(
         locked,
         tables,
@@ -105,17 +104,16 @@ fn write_value<N: BootName>(
     locked: &Locked<N>,
     tables: &Tables<N>,
     command: &Command<'_>,
-    value: &AnswerValue,
+    value: &LineAnswer,
     is_explained: bool,
     text: &mut String,
 ) -> Result<(), AllocError>
     requires in_range { CommandInRange N.table.frames command.now }
     requires groups { NamesItsGroups locked.now.machine.ledger value.now }
     ensures { IfOk result (λ _. string_bytes text.new ≡ string_bytes text.old
-        ++ (reasoned_text is_explained (answer_of locked.now.machine.ledger value.now)
+        ++ (reasoned_text is_explained (answer_text locked.now.machine.ledger value.now) (fault_in value.now)
         (borrower_of (head_named command.now) locked.now.machine)
-        ++ explanation_if (is_noted (answer_of locked.now.machine.ledger value.now) && is_explained)
-        (path_removed command.now) locked.now.machine)) }
+        ++ explanation_if (is_noted value.now && is_explained) (path_removed command.now) locked.now.machine)) }
 {
     write_plainly(locked.charges(), value, text)?;
     if !is_explained {
@@ -126,19 +124,15 @@ fn write_value<N: BootName>(
 }
 
 // Adds the text of an answer alone.
-fn write_plainly(
-    charges: &Charges,
-    value: &AnswerValue,
-    text: &mut String,
-) -> Result<(), AllocError>
+fn write_plainly(charges: &Charges, value: &LineAnswer, text: &mut String) -> Result<(), AllocError>
     requires { NamesItsGroups charges.now value.now }
     ensures { IfOk result (λ _.
-        string_bytes text.new ≡ string_bytes text.old ++ answer_text (answer_of charges.now value.now)) }
+        string_bytes text.new ≡ string_bytes text.old ++ answer_text charges.now value.now) }
 {
     match value {
-        AnswerValue::Served(outcome) => write_outcome(charges, outcome, text),
-        AnswerValue::Settled => write_settled(text),
-        AnswerValue::Unlocked(said) => write_unlocked(said, text),
+        LineAnswer::Served(outcome) => write_outcome(charges, outcome, text),
+        LineAnswer::Settled => write_settled(text),
+        LineAnswer::Unlocked(said) => write_unlocked(said, text),
     }
 }
 
@@ -146,21 +140,20 @@ fn write_plainly(
 fn explain<N: BootName>(
     locked: &Locked<N>,
     command: &Command<'_>,
-    value: &AnswerValue,
+    value: &LineAnswer,
     text: &mut String,
 ) -> Result<(), AllocError>
     ensures { IfOk result (λ _. string_bytes text.new ≡ string_bytes text.old
-        ++ explanation_if (is_noted (answer_of locked.now.machine.ledger value.now))
-        (path_removed command.now) locked.now.machine) }
+        ++ explanation_if (is_noted value.now) (path_removed command.now) locked.now.machine) }
 {
     match value {
-        AnswerValue::Served(_) => {
+        LineAnswer::Served(_) => {
             let machine = locked.machine();
             let (notes, left_out) = (machine.notes(), machine.notes_left_out());
             let tree = machine.charges().tree();
             write_explanation(tree, path_removed(command), notes, left_out, text)
         }
-        AnswerValue::Settled => Ok(()),
-        AnswerValue::Unlocked(_) => Ok(()),
+        LineAnswer::Settled => Ok(()),
+        LineAnswer::Unlocked(_) => Ok(()),
     }
 }

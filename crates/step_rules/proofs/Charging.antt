@@ -6,7 +6,7 @@ use Rattle.std.proofs.lemmas.Bool.{cases_lt, cases_eq, true≢false, leb-true, o
 use Rattle.std.proofs.lemmas.Nat.{pow_pos}
 use Rattle.zone_blocks.specs.declared.block.Block.{Block}
 use Rattle.group_tree.specs.declared.group.Group.{Group}
-use Rattle.group_tree.specs.Groups.{has_group, in_subtree, initial_groups}
+use Rattle.group_tree.specs.Groups.{has_group, in_subtree}
 use Rattle.group_tree.specs.{most_groups, is_in_subtree}
 use Rattle.step_rules.specs.declared.phase.ChargedUnit.{ChargedUnit}
 use Rattle.step_rules.specs.declared.phase.Way.TheVariants.{PassingOut, OnList}
@@ -27,7 +27,7 @@ use Rattle.step_rules.specs.{IsLegalRun, after, state_of, is_within, unit_size, 
 use Rattle.step_rules.specs.{without_frame, with_report, absorbed, paid, credited, consumed, filled, drained, units_after_run, groups_after}
 use Rattle.step_rules.specs.{groups_of, charged_in, unit_pages, charged_out, charged_in_subtree, PhasePaid, groups_in, KeepsInvariant, some_there}
 use Rattle.step_rules.specs.{IsHomed}
-use Rattle.step_rules.specs.State.{State, sum_to}
+use Rattle.step_rules.specs.State.{State, sum_to, boot_groups}
 use Rattle.step_rules.proofs.LegalTests.{consume_tests, credit_tests, drain_stock_tests, fill_tests, grant_tests, pass_out_tests}
 use Rattle.step_rules.proofs.LegalTests.{place_block_tests, return_tests, take_in_tests, ungrant_tests}
 use Rattle.step_rules.proofs.Basics.{at_itself}
@@ -63,7 +63,7 @@ groups_still x action = refl
 pub groups_in_run : (zone : Zone) (run : Run) → IsLegalRun zone run → (state_of zone run).groups ≡ groups_of run
 groups_in_run zone run legal =
     told_run (λ x seat action answer. groups_after x action answer) (λ s x. s.groups ≡ x) (λ x seat action. groups_still x action)
-    (λ s x seat action answer sound. groups_made s x seat action answer) zone initial_groups refl run legal
+    (λ s x seat action answer sound. groups_made s x seat action answer) zone boot_groups refl run legal
 
 -- ---- sums over a range
 -- of the numbers below n those of a range below n are as many as it has

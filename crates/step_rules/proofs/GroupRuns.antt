@@ -9,17 +9,17 @@ use Rattle.zone_blocks.specs.Areas.{IsFreeBlock}
 use Rattle.group_tree.specs.declared.event.EventKey.TheVariants.{Max, Oom, OomKill, OomGroupKill}
 use Rattle.group_tree.specs.declared.group.Group.{Group}
 use Rattle.group_tree.specs.Path.{names_of, parent_path, is_name, is_well_formed}
-use Rattle.group_tree.specs.Groups.{the_root, new_row, has_group, group_at, path_of, in_subtree, limit_of, initial_groups, number_at, has_child, make_fault}
+use Rattle.group_tree.specs.Groups.{new_row, has_group, group_at, path_of, in_subtree, limit_of, number_at, has_child, make_fault, room_of}
 use Rattle.group_tree.specs.Groups.{with_limit, with_oom_group, without_group, IsLeastFreeNumber}
 use Rattle.group_tree.specs.Room.{PathHasRoom, IsLowestOver, has_room, fits_limit}
 use Rattle.step_rules.specs.{at_boot, is_of_group, IsLegalRun, small_zone, group_comes_and_goes, killed_group_ends, group_killed_whole}
 use Rattle.step_rules.specs.{group_dies_whole, stock_without_a_page, events_in, events_local_in, flag_given}
-use Rattle.step_rules.specs.State.{sum_to, all_to}
+use Rattle.step_rules.specs.State.{sum_to, all_to, boot_groups, boot_root}
 use Rattle.step_rules.proofs.SmallRuns.{legal_each, root_has_room, front_block}
 
 -- the root, a group with a limit, and one below it
 abbrev three : Option ℕ → List Group
-three limit = the_root ∷ record (new_row 1 (codes "/a")) { limit = limit } ∷ new_row 2 (codes "/a/b") ∷ []
+three limit = boot_root ∷ record (new_row 1 (codes "/a")) { limit = limit } ∷ new_row 2 (codes "/a/b") ∷ []
 
 -- who is above the lower one
 data Above (m : ℕ) : Type 0 where
@@ -62,16 +62,16 @@ upper_is_over limit usage n over = record {
     by_place m (IsUpper e) full = subst (λ (k : ℕ). in_subtree (three limit) k 1 ≡ true) e refl
     by_place m (IsLower e) full = absurd (true≢false (subst (λ (k : ℕ). has_room (three limit) usage k n ≡ false) (sym e) full))
 
-first_number : IsLeastFreeNumber initial_groups 1
+first_number : IsLeastFreeNumber boot_groups 1
 unfolding has_group group_at
 first_number = record { free = refl; least = λ k few. by_number k few }
   where
-    by_number : (k : ℕ) → k < 1 → has_group initial_groups k ≡ true
+    by_number : (k : ℕ) → k < 1 → has_group boot_groups k ≡ true
     by_number zero few = refl
     by_number (suc k) few = absurd (omega (arith, few))
 
 abbrev two : Option ℕ → List Group
-two limit = the_root ∷ record (new_row 1 (codes "/a")) { limit = limit } ∷ []
+two limit = boot_root ∷ record (new_row 1 (codes "/a")) { limit = limit } ∷ []
 
 second_number : (limit : Option ℕ) → IsLeastFreeNumber (two limit) 2
 unfolding has_group group_at
@@ -92,7 +92,7 @@ none_free free e b small is =
     by_start (suc (suc k)) = refl
 
 pub group_run_is_legal : IsLegalRun small_zone group_comes_and_goes
-unfolding has_group group_at sum_to all_to in_subtree path_of names_of number_at parent_path is_name is_well_formed make_fault has_child with_limit without_group limit_of
+unfolding has_group group_at sum_to all_to in_subtree path_of names_of number_at parent_path is_name is_well_formed make_fault room_of has_child with_limit without_group limit_of
 group_run_is_legal = legal_each (at_boot small_zone) group_comes_and_goes (search (rules, first_number, second_number, path_has_room, upper_is_over, front_block) depth 40)
 
 not_group_5 : ◌≡◌ {A = Option ℕ} (Some 0) (Some 5) → ⊥
@@ -129,11 +129,11 @@ two_have_room usage n m below = elim (cases_eq 0 m) [
     nobody a b = rw (ne_eqb 0 m a) (rw (ne_eqb 1 m b) refl)
 
 pub killed_run_is_legal : IsLegalRun small_zone killed_group_ends
-unfolding has_group group_at sum_to all_to in_subtree path_of names_of number_at parent_path is_name is_well_formed make_fault has_child with_limit without_group limit_of
+unfolding has_group group_at sum_to all_to in_subtree path_of names_of number_at parent_path is_name is_well_formed make_fault room_of has_child with_limit without_group limit_of
 killed_run_is_legal = legal_each (at_boot small_zone) killed_group_ends (search (rules, first_number, second_number, two_have_room, front_block) depth 40)
 
 pub whole_run_is_legal : IsLegalRun small_zone group_dies_whole
-unfolding has_group group_at sum_to all_to in_subtree path_of names_of number_at parent_path is_name is_well_formed make_fault has_child with_oom_group without_group limit_of
+unfolding has_group group_at sum_to all_to in_subtree path_of names_of number_at parent_path is_name is_well_formed make_fault room_of has_child with_oom_group without_group limit_of
 whole_run_is_legal = legal_each (at_boot small_zone) group_dies_whole (search (rules, first_number, second_number) depth 40)
 
 pub flags_given : (flag_given group_killed_whole 1 ≡ true) × (flag_given group_killed_whole 2 ≡ false)

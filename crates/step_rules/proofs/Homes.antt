@@ -9,7 +9,7 @@ use Rattle.group_tree.specs.Groups.{has_group, has_child, in_subtree, make_fault
 use Rattle.group_tree.proofs.GroupLemmas.{AreGroups-with, AreGroups-limited, AreGroups-flagged, AreGroups-without, CanMake, can_make, length-full}
 use Rattle.group_tree.proofs.CallerLemmas.{has_group-with_kept, has_group-limited, has_group-flagged, has_group-without, in_subtree-refl}
 use Rattle.group_tree.proofs.CallerLemmas.{number_below}
-use Rattle.group_tree.specs.{most_groups, is_there, is_in_subtree}
+use Rattle.group_tree.specs.{most_groups, is_there, is_in_subtree, room_of}
 use Rattle.step_rules.specs.declared.phase.Hold.{Hold}
 use Rattle.step_rules.specs.declared.phase.Hold.TheVariants.{Unheld, HeldBy, Visiting}
 use Rattle.step_rules.specs.declared.phase.Stage.{Stage}
@@ -221,7 +221,7 @@ more_keeps {phases = phases} {parts = parts} groups later h tree stays = record 
     ]
 
 -- a new group's number is low
-new_low : (groups : List Group) (path : List ℕ) (n : ℕ) → CanMake groups path → IsLeastFreeNumber groups n → n < most_groups
+new_low : (groups : List Group) (path : List ℕ) (n : ℕ) → CanMake groups path → IsLeastFreeNumber groups n → n < room_of groups
 new_low groups path n can free = let a = length-full groups n free.least in let b = can.room in omega arith
 
 no_fault : (o : Option Fault) → is_none o ≡ true → o ≡ None

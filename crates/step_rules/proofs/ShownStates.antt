@@ -8,7 +8,7 @@ use Rattle.zone_blocks.specs.declared.block.Block.{Block}
 use Rattle.zone_blocks.specs.{Covers, IsFree, AreMaximalBlocks, IsMaximalBlock, IsInOneBlock}
 use Rattle.group_tree.specs.declared.group.Group.{Group}
 use Rattle.group_tree.specs.Path.{names_of}
-use Rattle.group_tree.specs.Groups.{has_group, group_at, path_of, in_subtree, initial_groups}
+use Rattle.group_tree.specs.Groups.{has_group, group_at, path_of, in_subtree}
 use Rattle.step_rules.specs.declared.phase.ChargedUnit.{ChargedUnit}
 use Rattle.step_rules.specs.declared.step.FramePlace.{FramePlace}
 use Rattle.step_rules.specs.declared.step.FramePlace.TheVariants.{Free, LentTo, Charged}
@@ -17,7 +17,7 @@ use Rattle.step_rules.specs.{kept_run, shown_rightly, at_list, IsShownWrongly, s
 use Rattle.step_rules.specs.{kept_in_no_unit, seen_beyond, prepaid_for_nobody, prepaid_left_out, no_group_seen, group_too_many, limit_never_set}
 use Rattle.step_rules.specs.{IsWrongAfter, shown_free, parted_areas, prepaid_by_nobody, prepaid_for_no_group, granted_and_lost, lost_in_number}
 use Rattle.step_rules.specs.{units_after_run}
-use Rattle.step_rules.specs.State.{State, sum_to}
+use Rattle.step_rules.specs.State.{State, sum_to, boot_groups}
 use Rattle.step_rules.specs.Promise.{Promise}
 use Rattle.step_rules.proofs.SmallRuns.{life_is_legal}
 use Rattle.step_rules.proofs.LentTo.{beginnings_are_legal}
@@ -102,7 +102,7 @@ current_shown g here = elim (cases_eq 0 g) [
   | inr ne ↦ absurd (false≢true (sym (no_other ne) ∙ here))
 ]
   where
-    no_other : (0 ≡ g → ⊥) → has_group initial_groups g ≡ false
+    no_other : (0 ≡ g → ⊥) → has_group boot_groups g ≡ false
     no_other ne = rw (ne_eqb 0 g ne) refl
 
 pub right_is_shown : IsShown s shown_rightly
@@ -244,7 +244,7 @@ pub for_no_group_is_wrong : IsWrongAfter [] prepaid_for_no_group
 unfolding has_group group_at
 for_no_group_is_wrong promise =
     let paid = promise.stocks 1 (omega arith) in
-    false≢true (subst (λ (g : ℕ). has_group initial_groups g ≡ true) (sym (some_number 5 paid.1.0 paid.1.1)) paid.1.2)
+    false≢true (subst (λ (g : ℕ). has_group boot_groups g ≡ true) (sym (some_number 5 paid.1.0 paid.1.1)) paid.1.2)
   where
     some_number : (a b : ℕ) → Some a ≡ Some b → a ≡ b
     some_number a b z = cc

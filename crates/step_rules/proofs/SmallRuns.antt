@@ -4,8 +4,8 @@ use Rattle.std.specs.List.{slice_index_or}
 use Rattle.std.proofs.lemmas.Bool.{cases_eq, ne_eqb, true≢false}
 use Rattle.zone_blocks.specs.Areas.{IsFreeBlock}
 use Rattle.group_tree.specs.Path.{names_of}
-use Rattle.group_tree.specs.Groups.{has_group, group_at, path_of, in_subtree, limit_of, initial_groups}
-use Rattle.step_rules.specs.State.{State, sum_to, all_to}
+use Rattle.group_tree.specs.Groups.{has_group, group_at, path_of, in_subtree, limit_of}
+use Rattle.step_rules.specs.State.{State, sum_to, all_to, boot_groups}
 use Rattle.step_rules.specs.{at_boot, Allows, Run, IsLegalRun, small_zone, life_of_a_frame, credited_twice, returned_twice, unlocked_too_soon}
 use Rattle.step_rules.specs.{returned_when_killed, at_the_borders, in_line, noted_events, events_in, events_local_in}
 use Rattle.group_tree.specs.Room.{PathHasRoom, has_room}
@@ -23,11 +23,11 @@ legal_each s (e ∷ run) each zero = each.0
 legal_each s (e ∷ run) each (suc k) = legal_each (next s e) run each.1 k
 
 -- the root has no limit
-pub root_has_room : (usage : ℕ → ℕ) (n : ℕ) → PathHasRoom initial_groups usage 0 n
+pub root_has_room : (usage : ℕ → ℕ) (n : ℕ) → PathHasRoom boot_groups usage 0 n
 unfolding limit_of group_at
 root_has_room usage n m below =
     elim (cases_eq 0 m) [
-      | inl e ↦ subst (λ (k : ℕ). has_room initial_groups usage k n ≡ true) e refl
+      | inl e ↦ subst (λ (k : ℕ). has_room boot_groups usage k n ≡ true) e refl
       | inr ne ↦ rw (ne_eqb 0 m ne) refl
     ]
 

@@ -7,7 +7,7 @@ use Rattle.std.specs.List.{fold}
 use Rattle.std.specs.Option.{option_and_then, option_map_or}
 use Rattle.group_tree.specs.declared.group.Group.{Group}
 use Rattle.group_tree.specs.Groups.{has_group, limit_of, is_oom_group, with_group, with_limit, with_oom_group, without_group}
-use Rattle.group_tree.specs.Groups.{group_at, initial_groups, the_root}
+use Rattle.group_tree.specs.Groups.{group_at}
 use Rattle.group_tree.proofs.CallerLemmas.{has_group-with, has_group-limited, has_group-flagged, has_group-without, limit_of-with, limit_of-with_new}
 use Rattle.group_tree.proofs.CallerLemmas.{limit_of-without, limit_of-limited, limit_of-limited_other, limit_of-flagged, is_oom_group-with_new}
 use Rattle.group_tree.proofs.GroupLemmas.{is_oom_group-with, is_oom_group-without, is_oom_group-limited, is_oom_group-flagged}
@@ -22,7 +22,7 @@ use Rattle.step_rules.specs.{Zone, Part, at_boot, with_at, without, with_last, f
 use Rattle.step_rules.specs.{state_of, with_back, without_frame, paid, credited, filled, drained, IsLegalRun, limit_after, flag_after, killed_after}
 use Rattle.step_rules.specs.{AllGroupsFollowRun, holder_after, open_after, hold_of, TheLockFollowsRun, InHand, hand_after, LastFill, fill_after}
 use Rattle.step_rules.specs.{last_fill, AllPartsFollowRun, KeepsInvariant}
-use Rattle.step_rules.specs.State.{State}
+use Rattle.step_rules.specs.State.{State, boot_groups, boot_root}
 use Rattle.step_rules.proofs.LegalTests.{lock_tests, open_visit_tests, shut_visit_tests, unlock_tests}
 use Rattle.step_rules.proofs.PhaseLemmas.{equal_test, none_some}
 use Rattle.step_rules.proofs.SoundSteps.{cpu_range}
@@ -106,11 +106,11 @@ flag_made g s x seat Lock answer holds made = holds
 flag_made g s x seat action answer holds made = holds
 
 -- the root's flag is off at first
-flag_boot : (g : ℕ) → is_oom_group initial_groups g ≡ false
+flag_boot : (g : ℕ) → is_oom_group boot_groups g ≡ false
 unfolding is_oom_group group_at
 flag_boot g = by_number (0 == g)
   where
-    by_number : (b : Bool) → option_map_or (λ (x : Group). x.oom_group) (cond b (Some the_root) None) false ≡ false
+    by_number : (b : Bool) → option_map_or (λ (x : Group). x.oom_group) (cond b (Some boot_root) None) false ≡ false
     by_number true = refl
     by_number false = refl
 
@@ -130,11 +130,11 @@ killed_made g s x seat Lock answer holds made = holds
 killed_made g s x seat action answer holds made = holds
 
 -- the root has no limit at first
-limit_boot : (g : ℕ) → limit_of initial_groups g ≡ None
+limit_boot : (g : ℕ) → limit_of boot_groups g ≡ None
 unfolding limit_of group_at
 limit_boot g = by_number (0 == g)
   where
-    by_number : (b : Bool) → option_and_then (λ (x : Group). x.limit) (cond b (Some the_root) None) ≡ None
+    by_number : (b : Bool) → option_and_then (λ (x : Group). x.limit) (cond b (Some boot_root) None) ≡ None
     by_number true = refl
     by_number false = refl
 

@@ -1,13 +1,13 @@
 -- What breaks the promise: small runs and shown states, each there for one thing that is wrong. So each field of the
 -- promise refuses something. One shown state keeps the promise.
 use Rattle.std.specs.Prelude.{ℕ, ◌==◌, false, Some, None, List, [], ◌∷◌, ◌++◌, take, codes, if◌then◌else◌}
-use Rattle.group_tree.specs.Groups.{new_row, the_root, initial_groups}
+use Rattle.group_tree.specs.Groups.{new_row}
 use Rattle.step_rules.specs.declared.step.Step.{Step}
 use Rattle.step_rules.specs.declared.step.Action.TheVariants.{Lock, Get, Put, Freeze, Unfreeze, TakeIn, Consume, Credit}
 use Rattle.step_rules.specs.declared.step.Action.TheVariants.{Grant, PlaceBlock, Return, SetMax, Make, Kill}
 use Rattle.step_rules.specs.declared.step.Answer.{Answer}
 use Rattle.step_rules.specs.declared.step.Answer.TheVariants.{Done, Held, Last, Took, Stocked, Granted, Placed, Number}
-use Rattle.step_rules.specs.State.{no_stock}
+use Rattle.step_rules.specs.State.{no_stock, boot_groups, boot_root}
 use Rattle.step_rules.specs.After.{Run, IsLegalRun, cpu_makes, zone_makes}
 use Rattle.step_rules.specs.Examples.{small_zone, first_visit, hand_over, life_of_a_frame, at_the_borders}
 use Rattle.step_rules.specs.Promise.{Shown, KeepsLimits, ReturnsNoFrameTwice, Promise}
@@ -151,7 +151,7 @@ shown_rightly = record {
   areas = record { at = 1; order = 0 } ∷ [];
   lists = λ cpu. [];
   keeper = λ f. if f == 0 then Some 0 else None;
-  groups = initial_groups;
+  groups = boot_groups;
   stocks = λ cpu. if cpu == 1 then record { group = Some 0; pages = 1; is_drained = false } else no_stock;
   current = λ g. 2;
 }
@@ -206,13 +206,13 @@ no_group_seen = record shown_rightly { groups = [] }
 -- a group is shown that was never made; nothing is charged to it
 abbrev pub group_too_many : Shown
 group_too_many = record shown_rightly {
-  groups = initial_groups ++ new_row 1 (codes "/a") ∷ [];
+  groups = boot_groups ++ new_row 1 (codes "/a") ∷ [];
   current = λ g. if g == 1 then 0 else 2;
 }
 
 -- the root is shown with a limit that was never set
 abbrev pub limit_never_set : Shown
-limit_never_set = record shown_rightly { groups = record the_root { limit = Some 5 } ∷ [] }
+limit_never_set = record shown_rightly { groups = record boot_root { limit = Some 5 } ∷ [] }
 
 -- ---- what is shown of free frames alone
 -- what is shown if both frames are free and nothing is charged
@@ -221,7 +221,7 @@ shown_free = record {
   areas = record { at = 0; order = 1 } ∷ [];
   lists = λ cpu. [];
   keeper = λ f. None;
-  groups = initial_groups;
+  groups = boot_groups;
   stocks = λ cpu. no_stock;
   current = λ g. 0;
 }

@@ -2,7 +2,7 @@
 -- alone.
 use Rattle.std.specs.Prelude.{ℕ, ◌-◌, ◌^◌, Bool, Option, Some, None, List, fold, if◌then◌else◌}
 use Rattle.group_tree.specs.declared.group.Group.{Group}
-use Rattle.group_tree.specs.Groups.{in_subtree, initial_groups, with_group, with_limit, with_oom_group, without_group}
+use Rattle.group_tree.specs.Groups.{in_subtree, with_group, with_limit, with_oom_group, without_group}
 use Rattle.step_rules.specs.declared.phase.ChargedUnit.{ChargedUnit}
 use Rattle.step_rules.specs.declared.step.Action.{Action}
 use Rattle.step_rules.specs.declared.step.Action.TheVariants.{Grant, Ungrant, Return, SetMax, SetFlag, Make, Remove}
@@ -11,6 +11,7 @@ use Rattle.step_rules.specs.declared.step.Answer.TheVariants.{Done, Granted, Num
 use Rattle.step_rules.specs.After.{Run}
 use Rattle.step_rules.specs.Units.{units_after_run}
 use Rattle.step_rules.specs.Returns.{counted_with_run}
+use Rattle.step_rules.specs.State.{boot_groups}
 
 -- the groups after one more step
 abbrev pub groups_after : List Group → Action → Answer → List Group
@@ -22,7 +23,7 @@ groups_after groups action answer = groups
 
 -- the root, and the groups that the run made and didn't remove
 abbrev pub groups_of : Run → List Group
-groups_of run = fold (λ old e. groups_after old e.0.action e.1) initial_groups run
+groups_of run = fold (λ old e. groups_after old e.0.action e.1) boot_groups run
 
 -- the pages that a step charges to the groups that pass the test: those granted to one of them
 abbrev pub charged_in : (ℕ → Bool) → Run → ℕ → Action → Answer → ℕ

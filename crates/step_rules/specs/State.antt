@@ -1,9 +1,10 @@
 -- The state after a list of steps.
-use Rattle.std.specs.Prelude.{ℕ, ◌+◌, ◌==◌, ◌&&◌, ◌++◌, not, nat_le, nat_lt, zero, suc, Bool, true, false, Option, None}
+use Rattle.std.specs.Prelude.{ℕ, ◌+◌, ◌-◌, ◌==◌, ◌&&◌, ◌++◌, not, nat_le, nat_lt, zero, suc, Bool, true, false, Option, None}
 use Rattle.std.specs.Prelude.{List, [], ◌∷◌, map, filter, if◌then◌else◌}
 use Rattle.std.specs.List.{range_with_len, slice_index_or}
 use Rattle.group_tree.specs.declared.group.Group.{Group}
-use Rattle.group_tree.specs.Groups.{initial_groups}
+use Rattle.group_tree.specs.Bounds.{most_groups}
+use Rattle.group_tree.specs.Groups.{the_root}
 use Rattle.step_rules.specs.declared.phase.Hold.{Hold}
 use Rattle.step_rules.specs.declared.phase.Hold.TheVariants.{Unheld, HeldBy, Visiting}
 use Rattle.step_rules.specs.declared.phase.Phase.{Phase}
@@ -65,12 +66,20 @@ no_stock = record { group = None; pages = 0; is_drained = false }
 abbrev pub no_part : Part
 no_part = record { list = []; fresh = []; back = []; stock = no_stock; book = 0; unreported = 0; reported = 0 }
 
+-- the root at boot, below which as many groups may exist as a tree has room for
+abbrev pub boot_root : Group
+boot_root = the_root (most_groups - 1)
+
+-- the groups at boot: the root alone
+abbrev pub boot_groups : List Group
+boot_groups = boot_root ∷ []
+
 -- at boot the lock and each frame are free, the root is the only group, and nothing is referred to, lent or pending
 abbrev pub at_boot : Zone → State
 at_boot zone = record {
   zone = zone;
   hold = Unheld;
-  groups = initial_groups;
+  groups = boot_groups;
   killed = λ g. false;
   phases = λ f. InZone;
   references = λ seat f. 0;

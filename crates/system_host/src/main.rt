@@ -7,8 +7,8 @@ ghost use Rattle.mem_system.specs.{IsOfZone, HasEnded};
 
 use anyhow::{Context, Result, anyhow};
 use cpu_part::BootName;
-use mem_system::{Boot, Cpu, Outcome, ReplyWithText, System, SystemEnd, TextCommand, boot};
-use reply_texts::{write_fast, write_get, write_put, write_reply};
+use mem_system::{Boot, Cpu, Outcome, System, SystemEnd, TextCommand, boot, serve_text};
+use reply_texts::{write_fast, write_get, write_outcome, write_put};
 use std::alloc::Global;
 use std::marker::Brand;
 use std::sync::Wait;
@@ -64,7 +64,7 @@ fn run_demo<N: BootName, R: Wait>(
     let second = others.first_mut().context("no second cpu")?;
     let tables = system.tables();
     let (path, file, value): (&[u8], &[u8], &[u8]) = (b"/web", b"memory.max", b"32K");
-    let ReplyWithText::Group(group) = system.visit(rt, first, &TextCommand::Mkdir { path }) else {
+    let Outcome::Group(group) = system.visit(rt, first, &TextCommand::Mkdir { path }) else {
         return Err(anyhow!("no group"));
     };
     ask(
@@ -97,7 +97,7 @@ fn run_demo<N: BootName, R: Wait>(
     ask(rt, system, second, &TextCommand::Read { path, file }, text)
 }
 
-// Makes a visit, which takes the zone's lock, and adds the text of the reply.
+// Takes the zone's lock, serves the command, and adds the text of its outcome before the lock is released.
 fn ask<N: BootName, R: Wait>(
     rt: &R,
     system: &System<N>,
@@ -107,5 +107,8 @@ fn ask<N: BootName, R: Wait>(
 ) -> Result<()>
     requires { IsOfZone N.table cmd.now }
 {
-    Ok(write_reply(&system.visit(rt, cpu, cmd), text)?)
+    let mut guard = system.lock(rt);
+    let locked = &mut *guard;
+    let outcome = serve_text(locked, system.tables(), cpu, cmd);
+    Ok(write_outcome(locked.charges(), &outcome, text)?)
 }

@@ -7,8 +7,8 @@ use Rattle.group_tree.proofs.GroupLemmas.{group_at-contains, number_at-there, pa
 use Rattle.group_charge.specs.Charges.{AreCharges, Ledger}
 use Rattle.script_lines.specs.declared.line.Command.TheVariants as cmd
 use Rattle.boot_words.specs.Tables.{KnownTable}
-use Rattle.script_replay.specs.declared.answer_value.AnswerValue.{AnswerValue}
-use Rattle.script_replay.specs.ValueAnswers.{NamesItsGroups, SaysCommand, answer_of}
+use Rattle.reply_texts.specs.declared.line_answer.LineAnswer.{LineAnswer}
+use Rattle.script_replay.specs.ValueAnswers.{NamesItsGroups, SaysCommand}
 use Rattle.tempolemon_c.specs.{CallsLive, IsCpu, SameButState, KnownLive}
 use Rattle.tempolemon_c.specs.declared.calls.Call.TheVariants as call
 use Rattle.tempolemon_c.specs.declared.calls.CallAnswer.TheVariants as returned
@@ -20,7 +20,7 @@ found_by_path groups n path are is =
     let by_its_number = number_at-there groups at.0 are.paths_distinct there.0 in
     subst (λ (p : List ℕ). number_at groups p ≡ Some n) at.2 (subst (λ (m : ℕ). number_at groups at.0.path ≡ Some m) there.1 by_its_number)
 
-module _ (frames : KnownTable) (cpu group order : ℕ) (from to : KnownLive) (value : AnswerValue) where
+module _ (frames : KnownTable) (cpu group order : ℕ) (from to : KnownLive) (value : LineAnswer) where
   abbrev groups : List Group
   groups = from.state.locked.machine.ledger.groups
 
@@ -29,13 +29,13 @@ module _ (frames : KnownTable) (cpu group order : ℕ) (from to : KnownLive) (va
 
   pub block_taken : (path : Bor (List ℕ)) → IsCpu from.sizes.cpus cpu → AreCharges from.state.locked.machine.ledger → path_of groups group ≡ Some path.now
       → ((named : Bor (List ℕ)) → number_at groups named.now ≡ Some group
-      → SaysCommand frames cpu (cmd.Alloc named order) from.state to.state (answer_of after value))
+      → SaysCommand frames cpu (cmd.Alloc named order) from.state to.state value)
       → NamesItsGroups after value → SameButState from to → CallsLive frames cpu (call.Alloc group order) from to (returned.Served value)
   block_taken path exists legal is says there rest = record {
     command = cmd.Alloc path order;
     means = (is, refl);
     tells = record {
-      answer = answer_of after value;
+      answer = value;
       serves = record { there = record { low = exists.low; high = exists.high; names = tt }; says = says path (found_by_path groups group path.now legal.groups is); rest = rest };
       is_answer = (there, refl);
     };

@@ -1,5 +1,6 @@
 pub mod Crossing
 pub mod Numbers
+pub mod Plain
 pub mod Refusing
 pub mod Showing
 pub mod Finding

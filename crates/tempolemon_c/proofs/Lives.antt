@@ -13,7 +13,8 @@ use Rattle.script_replay.specs.Terms.{Terms, terms}
 use Rattle.script_replay.proofs.Gaining.{all_lines_go_on, goes_on_none}
 use Rattle.load_run.specs.Ending.{last_words}
 use Rattle.load_run.proofs.Whole.{whole_run}
-use Rattle.tempolemon_c.specs.{StopsText, LiveBoot, OnBoot, ended_of, live_boot, KnownLive, AreCalls, CallOnHandle, LivesAreLegalRuns}
+use Rattle.host_memory.specs.{OnHandle, led}
+use Rattle.tempolemon_c.specs.{StopsText, LiveBoot, ended_of, KnownLive, AreCalls, CallOnHandle, LivesAreLegalRuns}
 use Rattle.tempolemon_c.specs.{TypedCallsAreCalls, steps_before_stop, steps_of_call, steps_of_calls, steps_of_life, most_refusal}
 use Rattle.tempolemon_c.specs.Lives.{Answered, Fetched, Nothing, RanOut, Refused, Stored, Typed}
 
@@ -28,33 +29,33 @@ record GoesOn (boot : LiveBoot) (steps : Run) (after : Option LiveBoot) : Type 0
   next : LiveBoot
   is : after ≡ Some next
   frames : next.frames ≡ boot.frames
-  goes_on : RunGoesOn steps boot.live.state next.live.state
+  goes_on : RunGoesOn steps boot.known.state next.known.state
 
 same_boot : (a b : LiveBoot) → Some a ≡ Some b → a ≡ b
 same_boot a b e = cc
 
 stays_so : (boot : LiveBoot) (after : Option LiveBoot) → after ≡ Some boot → GoesOn boot [] after
-stays_so boot after is = record { next = boot; is = is; frames = refl; goes_on = goes_on_none boot.live.state }
+stays_so boot after is = record { next = boot; is = is; frames = refl; goes_on = goes_on_none boot.known.state }
 
-module _ {does : KnownTable → KnownLive → KnownLive → Type 0} (before after : Option LiveBoot) (on : OnBoot does before after) where
+module _ {does : KnownTable → KnownLive → KnownLive → Type 0} (before after : Option LiveBoot) (on : OnHandle does before after) where
   -- what was done went on by these steps
   by_steps : (boot : LiveBoot) (steps : Run) → before ≡ Some boot → RunGoesOn steps on.from.state on.to.state → GoesOn boot steps after
   by_steps boot steps was goes =
-      let same = same_boot (live_boot on.frames on.from) boot (sym on.was ∙ was) in record {
-        next = live_boot on.frames on.to;
+      let same = same_boot (led on.frames on.from) boot (sym on.was ∙ was) in record {
+        next = led on.frames on.to;
         is = on.is;
         frames = ap (λ (b : LiveBoot). b.frames) same;
-        goes_on = subst (λ (b : LiveBoot). RunGoesOn steps b.live.state on.to.state) same goes;
+        goes_on = subst (λ (b : LiveBoot). RunGoesOn steps b.known.state on.to.state) same goes;
       }
 
   -- it changed nothing of the state
   without_steps : (boot : LiveBoot) (steps : Run) → GoesOn boot steps before → on.to.state ≡ on.from.state → GoesOn boot steps after
   without_steps boot steps so_far still =
-      let same = same_boot (live_boot on.frames on.from) so_far.next (sym on.was ∙ so_far.is) in record {
-        next = live_boot on.frames on.to;
+      let same = same_boot (led on.frames on.from) so_far.next (sym on.was ∙ so_far.is) in record {
+        next = led on.frames on.to;
         is = on.is;
         frames = ap (λ (b : LiveBoot). b.frames) same ∙ so_far.frames;
-        goes_on = subst (RunGoesOn steps boot.live.state) (sym (still ∙ ap (λ (b : LiveBoot). b.live.state) same)) so_far.goes_on;
+        goes_on = subst (RunGoesOn steps boot.known.state) (sym (still ∙ ap (λ (b : LiveBoot). b.known.state) same)) so_far.goes_on;
       }
 
 call_goes_on : (before after : Option LiveBoot) (call : CallOnHandle before after) (boot : LiveBoot) → before ≡ Some boot
@@ -62,7 +63,7 @@ call_goes_on : (before after : Option LiveBoot) (call : CallOnHandle before afte
 call_goes_on before after (Nothing stays) boot was = stays_so boot after (stays ∙ was)
 call_goes_on before after (Typed cpu asked answer does) boot was =
     by_steps before after does boot (steps_of_call before after (Typed cpu asked answer does)) was
-    (all_lines_go_on (terms does.frames false) (At 0 cpu does.done.command ∷ []) does.from.state does.to.state (answer_text answer)
+    (all_lines_go_on (terms does.frames false) (At 0 cpu does.done.command ∷ []) does.from.state does.to.state (answer_text does.to.state.locked.machine.ledger answer)
     (does.done.serves.says.replays 0))
 call_goes_on before after (Answered text is_explained answers does) boot was =
     by_steps before after does boot (steps_of_call before after (Answered text is_explained answers does)) was
@@ -94,7 +95,7 @@ calls_go_on (suc count) before after calls boot was =
       is = h.is;
       frames = h.frames ∙ g.frames;
       goes_on = λ earlier has.
-          subst (λ (r : Run). HasRun r h.next.live.state) (append_assoc earlier one more) (h.goes_on (earlier ++ one) (g.goes_on earlier has));
+          subst (λ (r : Run). HasRun r h.next.known.state) (append_assoc earlier one more) (h.goes_on (earlier ++ one) (g.goes_on earlier has));
     }
 
 pub lives_are_legal_runs : LivesAreLegalRuns
@@ -105,8 +106,8 @@ lives_are_legal_runs sizes count report life =
     let whole = steps_of_life sizes count report life in
     let g = calls_go_on count life.booted life.last life.calls booted life.boots.is in
     let same = same_boot g.next ended (sym g.is ∙ life.ends.was) in
-    let has : HasRun steps ended.live.state = subst (λ (b : LiveBoot). HasRun steps b.live.state) same (g.goes_on [] life.boots.first.so_far) in
-    let last = whole_run ended.frames steps ended.live.state (ended_of report) has life.ends.ends in
+    let has : HasRun steps ended.known.state = subst (λ (b : LiveBoot). HasRun steps b.known.state) same (g.goes_on [] life.boots.first.so_far) in
+    let last = whole_run ended.frames steps ended.known.state (ended_of report) has life.ends.ends in
     subst (λ (t : KnownTable). IsRunOf (zone_of_boot t) (last_words life.ends.ends.closes) whole × AlwaysKeepsPromise (zone_of_boot t) whole)
     (ap (λ (b : LiveBoot). b.frames) (sym same) ∙ g.frames) (last.leads, last.promise)
 

@@ -3,8 +3,8 @@ use Rattle.std.proofs.Common.{◌≡◌, ◌∙◌, ℕ, Some, None, List, ap, a
 use Rattle.std.specs.Prelude.{Option}
 use Rattle.std.proofs.lemmas.Option.{none-some}
 use Rattle.tempolemon_c.specs.declared.calls.Call.{Call}
-use Rattle.tempolemon_c.specs.{IsCpu, NamesMissingFrame, KnownLive, CallsInto, RefusesBehind, LiveBoot, live_boot}
-use Rattle.host_memory.specs.{bad_cpu, bad_frame, not_live, no_result}
+use Rattle.tempolemon_c.specs.{IsCpu, NamesMissingFrame, KnownLive, CallsInto, RefusesBehind, LiveBoot}
+use Rattle.host_memory.specs.{led, bad_cpu, bad_frame, not_live, no_result}
 
 module _ (cpu : ℕ) (asked : Call) (buffer : List ℕ) where
   -- there is no boot
@@ -24,7 +24,7 @@ module _ (cpu : ℕ) (asked : Call) (buffer : List ℕ) where
   -- nothing is done, and there is a boot
   still : (is_missing : KnownLive → Type 0) (before after : Option LiveBoot) → RefusesBehind is_missing before after → after ≡ before
   still is_missing before after refuses =
-      refuses.is ∙ (ap (λ (live : KnownLive). Some (live_boot refuses.frames live)) refuses.done.stays ∙ sym refuses.was)
+      refuses.is ∙ (ap (λ (live : KnownLive). Some (led refuses.frames live)) refuses.done.stays ∙ sym refuses.was)
 
   there : (is_missing : KnownLive → Type 0) (before after : Option LiveBoot) → RefusesBehind is_missing before after → before ≡ None → ⊥
   there is_missing before after refuses none = none-some _ (sym none ∙ refuses.was)

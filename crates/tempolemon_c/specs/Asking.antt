@@ -4,7 +4,8 @@ use Rattle.tempolemon_c.specs.declared.requests.Request.{Request}
 use Rattle.tempolemon_c.specs.declared.requests.Request.TheVariants.{Start, Lines, StoreUnread, TakeUnread, End}
 use Rattle.tempolemon_c.specs.declared.requests.RequestAnswer.{RequestAnswer}
 use Rattle.tempolemon_c.specs.Serving.{ServesRequest}
-use Rattle.tempolemon_c.specs.Handles.{LiveBoot, OnBoot}
+use Rattle.host_memory.specs.{OnHandle}
+use Rattle.tempolemon_c.specs.Handles.{LiveBoot}
 
 -- the request neither starts nor ends a boot
 abbrev pub IsBetween : Request → Type 0
@@ -17,4 +18,4 @@ IsBetween (End alloc) = ⊥
 -- the request was served with this answer
 abbrev pub AsksBehind : Request → (before after : Option LiveBoot) → RequestAnswer → Type 0
 AsksBehind request before after answer =
-    OnBoot (λ frames from to. ServesRequest frames (Some from) request (Some to) answer) before after
+    OnHandle (λ frames from to. ServesRequest frames (Some from) request (Some to) answer) before after

@@ -2,12 +2,13 @@
 use Rattle.std.specs.Prelude.{◌≡◌, ◌≢◌, ◌⊎◌, ◌↔◌, ℕ, ◌%◌, ◌^◌, ◌<◌, ◌≤◌, List, [], Option, None, length}
 use Rattle.std.specs.Borrow.{Bor}
 use Rattle.boot_words.specs.Tables.{KnownTable}
-use Rattle.mem_system.specs.declared.command.ReplyWithText.{ReplyWithText}
-use Rattle.mem_system.specs.declared.command.ReplyWithText.TheVariants as reply
+use Rattle.group_charge.specs.Charges.{Ledger}
+use Rattle.control_files.specs.Stat.{stat_text}
+use Rattle.mem_system.specs.Outcomes.{shown_text}
 use Rattle.mem_system.specs.declared.outcome.Outcome.{Outcome}
 use Rattle.mem_system.specs.declared.outcome.Outcome.TheVariants as outcome
-use Rattle.reply_texts.specs.LineAnswer.{LineAnswer}
-use Rattle.reply_texts.specs.LineAnswer as answer
+use Rattle.reply_texts.specs.declared.line_answer.LineAnswer.{LineAnswer}
+use Rattle.reply_texts.specs.declared.line_answer.LineAnswer.TheVariants as answer
 use Rattle.control_files.specs.Text.{longest_text}
 use Rattle.script_lines.specs.declared.line.Command.{Command}
 use Rattle.script_lines.specs.declared.line.Command.TheVariants as cmd
@@ -21,11 +22,9 @@ use Rattle.group_tree.specs.declared.fault.Fault.TheVariants.{BadOrder, NotPinne
 use Rattle.control_files.specs.declared.file.File.{File}
 use Rattle.tempolemon_c.specs.HandleCalls.{ChecksPin, GroupHasFiles, IsCpu, Means, NamesMissingFrame, NamesMissingGroup, RefusesCall, ServesLiveCommand}
 use Rattle.tempolemon_c.specs.Known.{KnownLive}
-use Rattle.script_replay.specs.ValueAnswers.{NamesItsGroups, answer_of}
-use Rattle.script_replay.specs.declared.answer_value.AnswerValue.{AnswerValue}
-use Rattle.script_replay.specs.declared.answer_value.AnswerValue.TheVariants as value
-use Rattle.tempolemon_c.specs.Handles.{LiveBoot, OnBoot}
-use Rattle.host_memory.specs.{PutsText, no_result, result_with, bad_cpu, bad_frame, bad_group, done, not_live, small_buffer}
+use Rattle.script_replay.specs.ValueAnswers.{NamesItsGroups}
+use Rattle.tempolemon_c.specs.Handles.{LiveBoot}
+use Rattle.host_memory.specs.{OnHandle, PutsText, no_result, result_with, bad_cpu, bad_frame, bad_group, done, not_live, small_buffer}
 use Rattle.host_memory.specs.declared.typed_result.TypedResult.{TypedResult}
 use Rattle.tempolemon_c.specs.Kinds.{result_of, status_of}
 use Rattle.tempolemon_c.specs.Statuses.{IsNotServedStatus, most_refusal}
@@ -41,7 +40,7 @@ pub record AnswersCall (frames : KnownTable) (cpu : ℕ) (asked : Call)
 -- the same of the boot behind a handle
 abbrev pub AnswersBehind : (cpu : ℕ) → Call → (before after : Option LiveBoot) → LineAnswer → Type 0
 AnswersBehind cpu asked before after answer =
-    OnBoot (λ frames from to. AnswersCall frames cpu asked from to answer) before after
+    OnHandle (λ frames from to. AnswersCall frames cpu asked from to answer) before after
 
 -- the outcome isn't a text
 abbrev pub IsPlainOutcome : Outcome → Type 0
@@ -50,52 +49,60 @@ IsPlainOutcome (outcome.Stat stat) = ⊥
 IsPlainOutcome other = Unit {0}
 
 -- the answer isn't a text
-abbrev pub HasNoText : AnswerValue → Type 0
-HasNoText (value.Served outcome) = IsPlainOutcome outcome
+abbrev pub HasNoText : LineAnswer → Type 0
+HasNoText (answer.Served outcome) = IsPlainOutcome outcome
 HasNoText other = Unit {0}
 
--- what a buffer gets of a reply: the text of a file, and of all else nothing
-abbrev pub PutsReply : ReplyWithText → (old new : List ℕ) → Type 0
-PutsReply (reply.Text text) old new = PutsText text old new
-PutsReply other old new = new ≡ old
+-- what a buffer gets of an outcome: the text of a file, by the charges, and of all else nothing
+abbrev pub PutsOutcome : Ledger → Outcome → (old new : List ℕ) → Type 0
+PutsOutcome ledger (outcome.Text group file) old new = PutsText (shown_text ledger group file) old new
+PutsOutcome ledger (outcome.Stat stat) old new = PutsText (stat_text stat) old new
+PutsOutcome ledger other old new = new ≡ old
 
 -- what a buffer gets of an answer
-abbrev pub PutsAnswer : LineAnswer → (old new : List ℕ) → Type 0
-PutsAnswer (answer.Served reply) old new = PutsReply reply old new
-PutsAnswer other old new = new ≡ old
+abbrev pub PutsAnswer : Ledger → LineAnswer → (old new : List ℕ) → Type 0
+PutsAnswer ledger (answer.Served outcome) old new = PutsOutcome ledger outcome old new
+PutsAnswer ledger other old new = new ≡ old
 
--- the status, the result, and what the buffer gets are those of this answer
-pub record ReturnsAnswer (answer : LineAnswer) (status : ℕ) (out : TypedResult) (old new : List ℕ) : Type 0 where
+-- the status, the result, and what the buffer gets are those of this answer, with texts by the charges that it left
+pub record ReturnsAnswer (ledger : Ledger) (answer : LineAnswer) (status : ℕ) (out : TypedResult) (old new : List ℕ)
+    : Type 0 where
   pub status_is : status ≡ status_of answer
-  pub out_is : out ≡ result_of answer
-  pub buffer : PutsAnswer answer old new
+  pub out_is : out ≡ result_of ledger answer
+  pub buffer : PutsAnswer ledger answer old new
 
--- the same of the answer that is this value, with the texts that the boot gives it
-abbrev pub ReturnsValue : AnswerValue → (status : ℕ) → TypedResult → (old new : List ℕ) → LiveBoot → Type 0
+-- and these are those of a text
+pub record ReturnsText (text : List ℕ) (status : ℕ) (out : TypedResult) (old new : List ℕ) : Type 0 where
+  pub status_is : status ≡ done
+  pub out_is : out ≡ result_with 4 (length text)
+  pub buffer : PutsText text old new
+
+-- the same of the answer of the boot
+abbrev pub ReturnsValue : LineAnswer → (status : ℕ) → TypedResult → (old new : List ℕ) → LiveBoot → Type 0
 ReturnsValue value status out old new boot =
-    ReturnsAnswer (answer_of boot.live.state.locked.machine.ledger value) status out old new
+    ReturnsAnswer boot.known.state.locked.machine.ledger value status out old new
 
 -- the boot has the groups whose paths or files are the answer
-abbrev pub HasGroupsBehind : AnswerValue → LiveBoot → Type 0
-HasGroupsBehind value boot = NamesItsGroups boot.live.state.locked.machine.ledger value
+abbrev pub HasGroupsBehind : LineAnswer → LiveBoot → Type 0
+HasGroupsBehind value boot = NamesItsGroups boot.known.state.locked.machine.ledger value
 
 -- the boot behind the handle has the group, and it isn't the root, which has no files
 abbrev pub HasFileBehind : (group : ℕ) → File → LiveBoot → Type 0
-HasFileBehind group file boot = GroupHasFiles group file boot.live
+HasFileBehind group file boot = GroupHasFiles group file boot.known
 
 -- the call was served: the status, the result, and what the buffer gets are those of its answer
-pub record ServesBehind (cpu : ℕ) (asked : Call) (before after : Option LiveBoot) (status : ℕ) (out : TypedResult)
+pub record ServesOnHandle (cpu : ℕ) (asked : Call) (before after : Option LiveBoot) (status : ℕ) (out : TypedResult)
     (old new : List ℕ) : Type 0 where
   pub answer : LineAnswer
   pub answers : AnswersBehind cpu asked before after answer
   pub status_is : status ≡ status_of answer
-  pub out_is : out ≡ result_of answer
-  pub buffer : PutsAnswer answer old new
+  pub out_is : out ≡ result_of answers.to.state.locked.machine.ledger answer
+  pub buffer : PutsAnswer answers.to.state.locked.machine.ledger answer old new
 
 -- the call names what the boot doesn't have, and nothing is done
 abbrev pub RefusesBehind : (is_missing : KnownLive → Type 0) → (before after : Option LiveBoot) → Type 0
 RefusesBehind is_missing before after =
-    OnBoot (λ frames from to. RefusesCall (is_missing from) from to) before after
+    OnHandle (λ frames from to. RefusesCall (is_missing from) from to) before after
 
 -- What a call with a buffer does, by its status. Up to the greatest number of a refusal it was served; above, nothing
 -- was done. The CPU is looked for before a frame or a group
@@ -103,7 +110,7 @@ pub record CallsInto (cpu : ℕ) (asked : Call) (before after : Option LiveBoot)
     (old new : List ℕ) : Type 0 where
   pub statuses : (status ≤ most_refusal) ⊎ IsNotServedStatus status
   pub none_live : (status ≡ not_live) ↔ (before ≡ None)
-  pub served : status ≤ most_refusal → ServesBehind cpu asked before after status out old new
+  pub served : status ≤ most_refusal → ServesOnHandle cpu asked before after status out old new
   pub no_cpu : status ≡ bad_cpu → RefusesBehind (λ from. ¬ IsCpu from.sizes.cpus cpu) before after
   pub no_frame : status ≡ bad_frame
       → RefusesBehind (λ from. IsCpu from.sizes.cpus cpu × NamesMissingFrame from.sizes.frames asked) before after
@@ -155,7 +162,7 @@ refusal_result = result_with 20 0
 
 -- the CPU behind the handle may have one more pin, of a block of this order
 abbrev pub MayPinBehind : (cpu order : ℕ) → Option LiveBoot → Type 0
-MayPinBehind cpu order before = OnBoot (λ frames from to. ChecksPin cpu order check.May from to) before before
+MayPinBehind cpu order before = OnHandle (λ frames from to. ChecksPin cpu order check.May from to) before before
 
 -- the status and the result of a call that asks this first
 abbrev pub IsCheckResult : PinCheck → (status : ℕ) → TypedResult → Type 0
@@ -167,7 +174,7 @@ IsCheckResult check.BadOrder status out = (status ≡ number_of BadOrder) × (ou
 -- the CPU behind the handle may not have one more pin, of a block of this order, and this says so
 pub record MayNotPin (cpu order : ℕ) (before : Option LiveBoot) (status : ℕ) (out : TypedResult) : Type 0 where
   pub why : PinCheck
-  pub checks : OnBoot (λ frames from to. ChecksPin cpu order why from to) before before
+  pub checks : OnHandle (λ frames from to. ChecksPin cpu order why from to) before before
   pub says : IsCheckResult why status out
 
 -- there is no boot behind the handle; or a CPU of it may not have one more pin, of a block of this order

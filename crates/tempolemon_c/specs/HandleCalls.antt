@@ -1,20 +1,19 @@
 -- What a call means, and what it does to a live boot.
-use Rattle.std.specs.Prelude.{◌≡◌, ◌⊎◌, ℕ, ◌+◌, ◌-◌, ◌<◌, ◌≤◌, List, Some, false, length, slice_get}
-use Rattle.group_tree.specs.{most_groups, has_group, path_of}
+use Rattle.std.specs.Prelude.{◌≡◌, ℕ, ◌+◌, ◌-◌, ◌<◌, ◌≤◌, List, Some, length, slice_get}
+use Rattle.group_tree.specs.{path_of}
 use Rattle.group_tree.specs.declared.group.Group.{Group}
 use Rattle.group_charge.specs.Charges.{Ledger}
+use Rattle.host_memory.specs.{IsMissingIn}
 use Rattle.control_files.specs.declared.file.File.{File}
 use Rattle.boot_words.specs.Tables.{KnownTable}
 use Rattle.step_rules.specs.State.{most_pins}
 use Rattle.mem_system.specs.{CpuInRun}
-use Rattle.mem_system.specs.declared.command.ReplyWithText.{ReplyWithText}
-use Rattle.mem_system.specs.declared.command.ReplyWithText.TheVariants as reply
 use Rattle.mem_system.specs.declared.outcome.Outcome.TheVariants as outcome
-use Rattle.mem_system.specs.Outcomes.{HasItsGroups, reply_of}
-use Rattle.reply_texts.specs.LineAnswer.{LineAnswer}
+use Rattle.mem_system.specs.Outcomes.{HasItsGroups, shown_text}
+use Rattle.reply_texts.specs.declared.line_answer.LineAnswer.{LineAnswer}
 use Rattle.script_lines.specs.declared.line.Command.{Command}
 use Rattle.script_lines.specs.declared.line.Command.TheVariants as cmd
-use Rattle.script_replay.specs.{HasValueAnswer, CommandInRange, CpuCommandInRange, NamesItsGroups, SaysCommand, answer_of}
+use Rattle.script_replay.specs.{HasValueAnswer, CommandInRange, CpuCommandInRange, NamesItsGroups, SaysCommand}
 use Rattle.tempolemon_c.specs.Known.{KnownLive}
 use Rattle.tempolemon_c.specs.Commands.{SameButState}
 use Rattle.tempolemon_c.specs.declared.calls.Call.{Call}
@@ -23,8 +22,6 @@ use Rattle.tempolemon_c.specs.declared.calls.CallAnswer.{CallAnswer}
 use Rattle.tempolemon_c.specs.declared.calls.CallAnswer.TheVariants as returned
 use Rattle.tempolemon_c.specs.declared.calls.PinCheck.{PinCheck}
 use Rattle.tempolemon_c.specs.declared.calls.PinCheck.TheVariants as check
-use Rattle.tempolemon_c.specs.declared.calls.FileText.{FileText}
-use Rattle.tempolemon_c.specs.declared.calls.FileText.TheVariants as file_text
 
 -- what a typed call asks: a command of a script which names no group by its number, and whose answer is a value; or a
 -- block for the group of a number
@@ -51,18 +48,14 @@ abbrev pub NamesMissingFrame : (frames : ℕ) → Call → Type 0
 NamesMissingFrame frames (call.Script command) = ¬ CommandInRange frames command
 NamesMissingFrame frames other = ⊥
 
--- no group has this number; those of groups are below 64
-abbrev pub HasNoGroup : List Group → ℕ → Type 0
-HasNoGroup groups number = (most_groups ≤ number) ⊎ (has_group groups number ≡ false)
-
 -- no group has the number that the call names
 abbrev pub NamesMissingGroup : List Group → Call → Type 0
-NamesMissingGroup groups (call.Alloc group order) = HasNoGroup groups group
+NamesMissingGroup groups (call.Alloc group order) = IsMissingIn groups group
 NamesMissingGroup groups other = ⊥
 
--- what a call returned is this answer, with the texts that the ledger after the command gives it
+-- what a call returned is this answer, and the groups that it shows exist
 abbrev pub IsReturnedAnswer : Ledger → LineAnswer → CallAnswer → Type 0
-IsReturnedAnswer ledger answer (returned.Served value) = NamesItsGroups ledger value × (answer ≡ answer_of ledger value)
+IsReturnedAnswer ledger answer (returned.Served value) = NamesItsGroups ledger value × (answer ≡ value)
 IsReturnedAnswer ledger answer other = ⊥
 
 -- the CPU and what the command names exist, it was served with this answer, and nothing else changed
@@ -135,12 +128,7 @@ pub record ChecksPin (cpu order : ℕ) (check : PinCheck) (from to : KnownLive) 
 abbrev pub GroupHasFiles : (group : ℕ) → File → KnownLive → Type 0
 GroupHasFiles group file live = HasItsGroups live.state.locked.machine.ledger (outcome.Text group file)
 
--- what a file shows, as the reply to a read of it
-abbrev pub file_reply : FileText → ReplyWithText
-file_reply (file_text.Text text) = reply.Text text
-file_reply (file_text.Refused fault) = reply.Refused fault
-
--- this is the reply to a read of the file, and nothing is done
-pub record ShowsFile (group : ℕ) (file : File) (from to : KnownLive) (shown : FileText) : Type 0 where
-  pub reply_is : file_reply shown ≡ reply_of from.state.locked.machine.ledger (outcome.Text group file)
+-- this is the text of the file, and nothing is done
+pub record ShowsFile (group : ℕ) (file : File) (from to : KnownLive) (shown : List ℕ) : Type 0 where
+  pub text_is : shown ≡ shown_text from.state.locked.machine.ledger group file
   pub stays : to ≡ from

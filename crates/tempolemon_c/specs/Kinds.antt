@@ -3,30 +3,23 @@ use Rattle.std.specs.Prelude.{ℕ, length}
 use Rattle.group_tree.specs.Faults.{number_of}
 use Rattle.cpu_part.specs.declared.answers.Fast as fast
 use Rattle.cpu_part.specs.declared.answers.Fast.TheVariants.{Got, FreshFull, ListEmpty, OtherGroup, Drained, NoStock}
-use Rattle.mem_system.specs.declared.command.ReplyWithText.{ReplyWithText}
-use Rattle.mem_system.specs.declared.command.ReplyWithText.TheVariants as reply
-use Rattle.reply_texts.specs.LineAnswer.{LineAnswer}
-use Rattle.reply_texts.specs.LineAnswer as answer
+use Rattle.group_charge.specs.Charges.{Ledger}
+use Rattle.control_files.specs.Stat.{stat_text}
+use Rattle.mem_system.specs.Outcomes.{shown_text}
+use Rattle.mem_system.specs.declared.outcome.Outcome.{Outcome}
+use Rattle.mem_system.specs.declared.outcome.Outcome.TheVariants as outcome
+use Rattle.reply_texts.specs.declared.line_answer.LineAnswer.{LineAnswer}
+use Rattle.reply_texts.specs.declared.line_answer.LineAnswer.TheVariants as answer
 use Rattle.reply_texts.specs.declared.steps.UnlockedAnswer.{UnlockedAnswer}
 use Rattle.reply_texts.specs.declared.steps.UnlockedAnswer.TheVariants as unlocked
-use Rattle.host_memory.specs.{get_result, put_result, result_with, done, over_limit}
+use Rattle.host_memory.specs.{get_result, outcome_result, outcome_status, put_result, result_with, done}
 use Rattle.host_memory.specs.declared.typed_result.TypedResult.{TypedResult}
 
--- the result of a reply
-abbrev pub reply_result : ReplyWithText → TypedResult
-reply_result reply.Done = result_with 1 0
-reply_result (reply.Group group) = result_with 2 group
-reply_result (reply.Frame frame) = result_with 3 frame
-reply_result (reply.Text text) = result_with 4 (length text)
-reply_result reply.Free = result_with 5 0
-reply_result (reply.Lent cpu) = result_with 6 cpu
-reply_result (reply.Charged group path) = result_with 7 group
-reply_result reply.Marked = result_with 8 0
-reply_result reply.Active = result_with 9 0
-reply_result (reply.Left references) = result_with 10 references
-reply_result reply.Returned = result_with 11 0
-reply_result (reply.OverLimit group path) = result_with 20 group
-reply_result (reply.Refused fault) = result_with 20 0
+-- the length of the text that an outcome shows, by the charges
+abbrev pub shown_length : Ledger → Outcome → ℕ
+shown_length ledger (outcome.Text group file) = length (shown_text ledger group file)
+shown_length ledger (outcome.Stat stat) = length (stat_text stat)
+shown_length ledger other = 0
 
 -- the result of a frame that was asked for without the lock
 abbrev pub fast_result : fast.Fast → TypedResult
@@ -46,19 +39,13 @@ unlocked_result unlocked.Listed = result_with 13 0
 unlocked_result (unlocked.Refused fault) = result_with 20 0
 
 -- the result of an answer
-abbrev pub result_of : LineAnswer → TypedResult
-result_of (answer.Served reply) = reply_result reply
-result_of answer.Settled = result_with 12 0
-result_of (answer.Unlocked said) = unlocked_result said
-
--- the status of a reply: a refusal's number, or 0
-abbrev pub reply_status : ReplyWithText → ℕ
-reply_status (reply.OverLimit group path) = over_limit
-reply_status (reply.Refused fault) = number_of fault
-reply_status other = done
+abbrev pub result_of : Ledger → LineAnswer → TypedResult
+result_of ledger (answer.Served outcome) = outcome_result (shown_length ledger outcome) outcome
+result_of ledger answer.Settled = result_with 12 0
+result_of ledger (answer.Unlocked said) = unlocked_result said
 
 -- the status of an answer
 abbrev pub status_of : LineAnswer → ℕ
-status_of (answer.Served reply) = reply_status reply
+status_of (answer.Served outcome) = outcome_status outcome
 status_of (answer.Unlocked (unlocked.Refused fault)) = number_of fault
 status_of other = done

@@ -14,15 +14,13 @@ pub mod Serving
 -- what other crates and the proofs import by one name, `Rattle.tempolemon_c.specs`
 pub use Rattle.tempolemon_c.specs.Behind.{behind}
 pub use Rattle.tempolemon_c.specs.Calls.{CallsBehind, CallsInto, HasFileBehind, HasGroupsBehind, PutsAnswer, RefusesBehind, ReturnsAnswer}
-pub use Rattle.tempolemon_c.specs.Calls.{ReturnsValue}
-pub use Rattle.tempolemon_c.specs.Handles.{LiveBoot, OnBoot, boot_of, ended_of, live_boot}
-pub use Rattle.tempolemon_c.specs.Kinds.{reply_status, result_of, status_of}
+pub use Rattle.tempolemon_c.specs.Calls.{ReturnsText, ReturnsValue}
+pub use Rattle.tempolemon_c.specs.Handles.{LiveBoot, ended_of}
+pub use Rattle.tempolemon_c.specs.Kinds.{result_of, shown_length, status_of}
 pub use Rattle.tempolemon_c.specs.Statuses.{most_refusal}
 pub use Rattle.tempolemon_c.specs.HandleCalls.{CallsLive, GroupHasFiles, IsCpu, NamesMissingFrame, RefusesCall, ReturnsCommandAnswer, ShowsFile}
-pub use Rattle.tempolemon_c.specs.HandleCalls.{file_reply}
 pub use Rattle.tempolemon_c.specs.Commands.{SameButState, StopsText}
 pub use Rattle.tempolemon_c.specs.Known.{KnownLive}
 pub use Rattle.tempolemon_c.specs.Lives.{AreCalls, CallOnHandle, LivesAreLegalRuns, TypedCallsAreCalls, steps_before_stop, steps_of_call}
 pub use Rattle.tempolemon_c.specs.Lives.{steps_of_calls, steps_of_life}
-pub use Rattle.tempolemon_c.specs.Owned.{brand, live_owns, live_row}
-pub use Rattle.tempolemon_c.specs.Serving.{OnRaw}
+pub use Rattle.tempolemon_c.specs.Owned.{live_owns, live_row}

@@ -6,7 +6,7 @@ use Rattle.step_rules.specs.After.{Run}
 use Rattle.boot_words.specs.{zone_of_boot, IsRunOf}
 use Rattle.mem_core.specs.Promise.{AlwaysKeepsPromise}
 use Rattle.reply_texts.specs.Answers.{answer_text}
-use Rattle.reply_texts.specs.LineAnswer.{LineAnswer}
+use Rattle.reply_texts.specs.declared.line_answer.LineAnswer.{LineAnswer}
 use Rattle.script_lines.specs.declared.line.Line.TheVariants.{At}
 use Rattle.script_replay.specs.Lines.{SystemState, steps_of_served}
 use Rattle.script_replay.specs.Terms.{Terms, terms}
@@ -46,7 +46,7 @@ abbrev pub steps_of_call : (before after : Option LiveBoot) → CallOnHandle bef
 steps_of_call before after (Nothing stays) = []
 steps_of_call before after (Typed cpu asked answer does) =
     steps_of_served (terms does.frames false) (At 0 cpu does.done.command ∷ []) does.from.state
-    does.to.state (answer_text answer) (does.done.serves.says.replays 0)
+    does.to.state (answer_text does.to.state.locked.machine.ledger answer) (does.done.serves.says.replays 0)
 steps_of_call before after (Answered text is_explained answers does) =
     steps_of_served (terms does.frames is_explained) does.done.replays.lines does.from.state
     does.to.state answers does.done.replays.served

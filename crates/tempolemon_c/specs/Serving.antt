@@ -2,6 +2,7 @@
 use Rattle.std.specs.Prelude.{◌≡◌, [], Option, None, Some}
 use Rattle.zone_blocks.specs.declared.config.Config.{Config}
 use Rattle.boot_words.specs.Tables.{KnownTable}
+use Rattle.host_memory.specs.{OnKnown}
 use Rattle.load_run.specs.{IsNewBootState, EndsHeld}
 use Rattle.load_run.specs.declared.boot_end.BootEnd.{BootEnd}
 use Rattle.tempolemon_c.specs.Known.{KnownLive}
@@ -32,20 +33,6 @@ IsFit (Some live) (StoreUnread text) = Unit {0}
 IsFit (Some live) (TakeUnread alloc) = Unit {0}
 IsFit (Some live) (End alloc) = Unit {0}
 
--- there is a boot before and after, and `does` leads from one to the other
-pub record OnLive (does : (from to : KnownLive) → Type 0) (before after : Option KnownLive) : Type 0 where
-  pub from : KnownLive
-  pub to : KnownLive
-  pub was : before ≡ Some from
-  pub is : after ≡ Some to
-  pub done : does from to
-
--- there is a boot before and after, `does` leads from one to the other, and the table stays
-pub record OnRaw (does : (from to : KnownLive) → Type 0) (old_frames : KnownTable)
-    (before : Option KnownLive) (frames : KnownTable) (after : Option KnownLive) : Type 0 where
-  pub frames_are : frames ≡ old_frames
-  pub on_live : OnLive does before after
-
 -- a boot of these sizes stands as at first, and no answer is unread
 pub record StartsBoot (frames : KnownTable) (sizes : Config) (after : Option KnownLive) : Type 0 where
   pub live : KnownLive
@@ -68,15 +55,15 @@ ServesRequest frames before (Start alloc boot sizes) after returned.Done =
     StartsBoot frames sizes after
 ServesRequest frames before (Start alloc boot sizes) after returned.NoMemory = after ≡ None
 ServesRequest frames before (Lines alloc text is_explained) after (returned.Text answers) =
-    OnLive (AnswersScript frames text.items is_explained answers.items) before after
+    OnKnown (AnswersScript frames text.items is_explained answers.items) before after
 ServesRequest frames before (Lines alloc text is_explained) after (returned.BadLine number) =
-    OnLive (RefusesScript text.items number) before after
+    OnKnown (RefusesScript text.items number) before after
 ServesRequest frames before (Lines alloc text is_explained) after returned.NoMemory =
-    OnLive (RunsOut frames text.items is_explained) before after
+    OnKnown (RunsOut frames text.items is_explained) before after
 ServesRequest frames before (StoreUnread text) after returned.Done =
-    OnLive (λ from to. to ≡ with_unread_answer from text.items) before after
+    OnKnown (λ from to. to ≡ with_unread_answer from text.items) before after
 ServesRequest frames before (TakeUnread alloc) after (returned.Text text) =
-    OnLive (λ from to. TakesUnreadAnswer from to text.items) before after
+    OnKnown (λ from to. TakesUnreadAnswer from to text.items) before after
 ServesRequest frames before (End alloc) after (returned.Ended ended) =
     EndsLive frames before after ended
 ServesRequest frames before request after answer = ⊥

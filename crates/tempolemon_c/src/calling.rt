@@ -2,16 +2,14 @@
 
 ghost use Rattle.std.specs.Prelude.{◌≡◌, IfSome, IsSomeAnd};
 ghost use Rattle.control_files.specs.Stat.{stat_text};
-ghost use Rattle.mem_system.specs.declared.command.ReplyWithText.TheVariants as reply;
 ghost use Rattle.mem_system.specs.declared.outcome.Outcome.TheVariants.{Text};
-ghost use Rattle.reply_texts.specs.LineAnswer as answer;
-ghost use Rattle.script_replay.specs.declared.answer_value.AnswerValue.TheVariants.{Served};
+ghost use Rattle.reply_texts.specs.declared.line_answer.LineAnswer.TheVariants.{Served};
 ghost use Rattle.tempolemon_c.specs.Behind.{behind};
 ghost use Rattle.tempolemon_c.specs.HandleCalls.{IsTypedCall};
-ghost use Rattle.tempolemon_c.specs.Calls.{CallsBehind, CallsInto, HasFileBehind, HasGroupsBehind, ReturnsAnswer};
+ghost use Rattle.tempolemon_c.specs.Calls.{CallsBehind, CallsInto, HasFileBehind, HasGroupsBehind, ReturnsText};
 ghost use Rattle.tempolemon_c.specs.Calls.{ReturnsValue};
 
-use crate::calls::{Call, CallAnswer, FileText};
+use crate::calls::{Call, CallAnswer};
 use crate::handle::Handle;
 use crate::typed_result::typed_answer_of;
 use control_files::file::File;
@@ -19,11 +17,11 @@ use control_files::stat::{MemoryStat, stat_text};
 use control_files::text::ArrayText;
 use group_tree::group::GroupId;
 use host_memory::buffers::copy_answers;
-use host_memory::kinds::{NOTHING, REFUSED, TEXT};
+use host_memory::kinds::{NOTHING, TEXT};
 use host_memory::status::{BAD_CPU, BAD_FRAME, BAD_GROUP, DONE, NOT_LIVE};
 use host_memory::typed_result::TypedResult;
 use mem_system::Outcome;
-use script_replay::AnswerValue;
+use reply_texts::LineAnswer;
 use std::alloc::Global;
 
 /// Serves a call of the CPU of this number, and writes the result for the host.
@@ -79,7 +77,7 @@ pub(crate) fn serve_into(
 fn write_value(
     alloc: Global,
     handle: &mut Handle,
-    value: &AnswerValue,
+    value: &LineAnswer,
     buffer: &mut [u8],
     out: &mut TypedResult,
 ) -> u8
@@ -88,10 +86,10 @@ fn write_value(
     ensures out { IfSome (behind handle.old) (ReturnsValue value.now result out.new buffer.old buffer.new) }
 {
     match *value {
-        AnswerValue::Served(Outcome::Text(group, file)) => {
+        LineAnswer::Served(Outcome::Text(group, file)) => {
             write_file(alloc, handle, group, file, buffer, out)
         }
-        AnswerValue::Served(Outcome::Stat(stat)) => write_stat(stat, buffer, out),
+        LineAnswer::Served(Outcome::Stat(stat)) => write_stat(stat, buffer, out),
         _ => {
             let answered = typed_answer_of(value);
             out.number = answered.typed.number;
@@ -101,10 +99,10 @@ fn write_value(
     }
 }
 
-// Writes the kind of what a file shows, and its text into the buffer, if that has room for it. Here and in `write_stat`
+// Writes the text of a file into the buffer, if that has room for it. Here and in `write_stat`
 // alone there is room for a text, so that no other call clears that room.
 #[inline(never)]
-#[tactic(auto, using(host_memory::proofs::Numbers::number_low, crate::proofs::Showing::stays, crate::proofs::Showing::tells))]
+#[tactic(auto, using(crate::proofs::Showing::stays, crate::proofs::Showing::tells))]
 fn write_file(
     alloc: Global,
     handle: &mut Handle,
@@ -118,29 +116,20 @@ fn write_file(
     ensures out { IfSome (behind handle.old)
         (ReturnsValue (Served (Text group file)) result out.new buffer.old buffer.new) }
 {
-    match handle.show(alloc, group, file) {
-        FileText::Text(text) => write_text(&text, buffer, out),
-        FileText::Refused(fault) => {
-            *out = TypedResult {
-                number: 0,
-                kind: REFUSED,
-            };
-            fault.number() as u8
-        }
-    }
+    write_text(&handle.show(alloc, group, file), buffer, out)
 }
 
 // Writes the text of memory.stat into the buffer, if that has room for it.
 #[inline(never)]
 fn write_stat(stat: MemoryStat, buffer: &mut [u8], out: &mut TypedResult) -> u8
-    ensures { ReturnsAnswer (answer.Served (reply.Text (stat_text stat))) result out.new buffer.old buffer.new }
+    ensures { ReturnsText (stat_text stat) result out.new buffer.old buffer.new }
 {
     write_text(&stat_text(stat), buffer, out)
 }
 
 // Writes a text into the buffer, if that has room for it.
 fn write_text(text: &ArrayText, buffer: &mut [u8], out: &mut TypedResult) -> u8
-    ensures { ReturnsAnswer (answer.Served (reply.Text text.now)) result out.new buffer.old buffer.new }
+    ensures { ReturnsText text.now result out.new buffer.old buffer.new }
 {
     let text = text.as_bytes();
     let _fits = copy_answers(text, buffer);

@@ -5,10 +5,8 @@ ghost use Rattle.script_replay.specs.Ranges.{CommandInRange};
 ghost use Rattle.tempolemon_c.specs.HandleCalls.{IsTypedCall};
 ghost use Rattle.tempolemon_c.specs.declared.calls.Call.TheVariants.{Script};
 
-use control_files::text::ArrayText;
-use group_tree::fault::Fault;
+use reply_texts::LineAnswer;
 use script_lines::line::Command;
-use script_replay::AnswerValue;
 
 /// What a host asks of a CPU.
 #[derive(Clone, Copy)]
@@ -23,7 +21,7 @@ pub enum Call<'a> {
 #[derive(Clone, Copy, PartialEq, Eq)]
 pub enum CallAnswer {
     /// It was served with this answer.
-    Served(AnswerValue),
+    Served(LineAnswer),
     /// The zone has no such CPU, and nothing was done.
     NoCpu,
     /// The zone has no such frame, and nothing was done.
@@ -43,15 +41,6 @@ pub enum PinCheck {
     PinsFull,
     /// The order isn't 1 to 10.
     BadOrder,
-}
-
-/// What a file of a group shows.
-#[derive(Clone, Copy, Debug, PartialEq, Eq)]
-pub enum FileText {
-    /// Its text.
-    Text(ArrayText),
-    /// It can't be read, for this reason.
-    Refused(Fault),
 }
 
 // The frame that the command names, if it names one: nothing else that it names can be missing. It is inlined, so that

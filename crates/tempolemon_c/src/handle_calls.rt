@@ -1,22 +1,24 @@
 //! What is done with the boot behind a handle.
 
 ghost use Rattle.std.specs.Prelude.{◌≡◌, ◌↔◌, IsSome, IsSomeAnd, IsTrue, MatchBool, None, Some};
+ghost use Rattle.host_memory.specs.{OnHandle};
 ghost use Rattle.zone_blocks.specs.Config.{IsValidConfig};
 ghost use Rattle.tempolemon_c.specs.HandleCalls.{CallsLive, ChecksPin, IsTypedCall, ShowsFile};
 ghost use Rattle.tempolemon_c.specs.Behind.{behind};
 ghost use Rattle.tempolemon_c.specs.Asking.{AsksBehind, IsBetween};
 ghost use Rattle.tempolemon_c.specs.Calls.{HasFileBehind};
-ghost use Rattle.tempolemon_c.specs.Handles.{BootsNew, EndsBoot, OnBoot};
+ghost use Rattle.tempolemon_c.specs.Handles.{BootsNew, EndsBoot};
 
-use crate::calls::{Call, CallAnswer, FileText, PinCheck};
+use crate::calls::{Call, CallAnswer, PinCheck};
 use crate::handle::Handle;
 use crate::raw::{RawBoot, call_raw, check_pin_raw, serve_raw, show_raw};
-use crate::report::report_of;
 use crate::requests::{Request, RequestAnswer};
 use control_files::file::File;
+use control_files::text::ArrayText;
 use group_tree::group::GroupId;
-use host_memory::report::Report;
-use mem_system::Boot;
+use host_memory::report::{Report, report_of};
+use load_run::boot_end::BootEnd;
+use mem_system::{Boot, SystemEnd};
 use std::alloc::Global;
 use zone_blocks::config::Config;
 
@@ -57,11 +59,11 @@ impl Handle {
 
     /// Serves a call of the CPU of this number.
     #[inline(always)]
-    #[tactic(auto, using(crate::proofs::Crossing::crossed, crate::proofs::Crossing::some_behind))]
+    #[tactic(auto, using(host_memory::proofs::Crossing::crossed, host_memory::proofs::Crossing::some_behind))]
     pub(crate) fn call(&mut self, alloc: Global, cpu: u32, call: &Call<'_>) -> CallAnswer
         requires live { IsSome (behind self.old) }
         requires asked { IsTypedCall call.now }
-        ensures { OnBoot (λ frames from to. CallsLive frames cpu call.now from to result)
+        ensures { OnHandle (λ frames from to. CallsLive frames cpu call.now from to result)
             (behind self.old) (behind self.new) }
     {
         let raw = std::mem::replace(&mut self.raw, RawBoot::none(alloc));
@@ -71,10 +73,10 @@ impl Handle {
     }
 
     /// Whether the CPU of this number may have one more pin, of a block of this order.
-    #[tactic(auto, using(crate::proofs::Crossing::crossed, crate::proofs::Crossing::some_behind))]
+    #[tactic(auto, using(host_memory::proofs::Crossing::crossed, host_memory::proofs::Crossing::some_behind))]
     pub(crate) fn check_pin(&mut self, alloc: Global, cpu: u32, order: u32) -> PinCheck
         requires live { IsSome (behind self.old) }
-        ensures { OnBoot (λ frames from to. ChecksPin cpu order result from to)
+        ensures { OnHandle (λ frames from to. ChecksPin cpu order result from to)
             (behind self.old) (behind self.new) }
     {
         let raw = std::mem::replace(&mut self.raw, RawBoot::none(alloc));
@@ -84,10 +86,10 @@ impl Handle {
     }
 
     /// What a file of a group shows. The group exists, and isn't the root, which has no files.
-    #[tactic(auto, using(crate::proofs::Crossing::crossed, crate::proofs::Crossing::file_behind))]
-    pub(crate) fn show(&mut self, alloc: Global, group: GroupId, file: File) -> FileText
+    #[tactic(auto, using(host_memory::proofs::Crossing::crossed, crate::proofs::Crossing::file_behind))]
+    pub(crate) fn show(&mut self, alloc: Global, group: GroupId, file: File) -> ArrayText
         requires there { IsSomeAnd (behind self.old) (HasFileBehind group file) }
-        ensures { OnBoot (λ frames from to. ShowsFile group file from to result)
+        ensures { OnHandle (λ frames from to. ShowsFile group file from to result)
             (behind self.old) (behind self.new) }
     {
         let raw = std::mem::replace(&mut self.raw, RawBoot::none(alloc));
@@ -106,7 +108,7 @@ impl Handle {
         self.raw = raw;
         self.is_live = false;
         match answer {
-            RequestAnswer::Ended(ended) => report_of(ended),
+            RequestAnswer::Ended(BootEnd { held, audit }) => report_of(SystemEnd { held, audit }),
             _ => unreachable!(),
         }
     }

@@ -30,7 +30,6 @@ pub mod live;
 pub mod live_pointer;
 pub mod raw;
 mod replaying;
-mod report;
 pub mod requests;
 pub mod serving;
 mod status;

@@ -1,24 +1,25 @@
 //! The parts of a boot between calls.
 
-ghost use Rattle.std.specs.Prelude.{◌≡◌, [], IfErr, IfNone, IfOk, IfSome, IsTrue, length};
+ghost use Rattle.std.specs.Prelude.{◌≡◌, [], IfErr, IfOk, IsTrue, length};
 ghost use Rattle.group_tree.specs.Groups.{has_group};
 ghost use Rattle.mem_system.specs.declared.outcome.Outcome.TheVariants.{Text};
-ghost use Rattle.mem_system.specs.{IsSizedAs, HasItsGroups, reply_of};
+ghost use Rattle.mem_system.specs.{IsSizedAs, HasItsGroups, shown_text};
 ghost use Rattle.script_replay.specs.{system_state, CpuCommandInRange, terms, HasValueAnswer};
 ghost use Rattle.load_run.specs.{IsNewBootState, EndsHeld};
-ghost use Rattle.tempolemon_c.specs.HandleCalls.{CallsLive, HasNoGroup, IsCpu, IsTypedCall, ReturnsCommandAnswer};
-ghost use Rattle.tempolemon_c.specs.HandleCalls.{IsPinCheck, file_reply};
+ghost use Rattle.tempolemon_c.specs.HandleCalls.{CallsLive, IsCpu, IsTypedCall, ReturnsCommandAnswer};
+ghost use Rattle.tempolemon_c.specs.HandleCalls.{IsPinCheck};
 ghost use Rattle.tempolemon_c.specs.declared.calls.Call.TheVariants.{Alloc, Script};
 ghost use Rattle.tempolemon_c.specs.Commands.{AnswersScript, FailsScript, FailsText, ReplaysText, TakesUnreadAnswer};
 ghost use Rattle.tempolemon_c.specs.Commands.{with_unread_answer};
 
-use crate::calls::{Call, CallAnswer, FileText, PinCheck, frame_named};
-use control_files::file::{File, file_text};
+use crate::calls::{Call, CallAnswer, PinCheck, frame_named};
+use control_files::file::File;
+use control_files::text::ArrayText;
 use cpu_part::{BootName, MAX_PINS, Tables};
-use group_charge::charges::Charges;
 use group_tree::group::GroupId;
+use host_memory::groups::find_group;
 use load_run::boot_end::{BootEnd, end_boot};
-use mem_system::{Boot, Cpu, Locked};
+use mem_system::{Boot, Cpu, Locked, shown_text};
 use script_lines::fault::ScriptFault;
 use script_lines::line::Command;
 use script_lines::script::parse_script;
@@ -207,15 +208,12 @@ impl<N: BootName> Live<N> {
         PinCheck::May
     }
 
-    /// What a file of a group shows. The group exists, and isn't the root, which has no files.
-    pub fn show(&self, group: GroupId, file: File) -> FileText
+    /// The text of a file of a group. The group exists, and isn't the root, which has no files.
+    pub fn show(&self, group: GroupId, file: File) -> ArrayText
         requires there { HasItsGroups self.now.state.locked.machine.ledger (Text group file) }
-        ensures { file_reply result ≡ reply_of self.now.state.locked.machine.ledger (Text group file) }
+        ensures { result ≡ shown_text self.now.state.locked.machine.ledger group file }
     {
-        match file_text(self.locked.charges(), group, file) {
-            Ok(text) => FileText::Text(text),
-            Err(fault) => FileText::Refused(fault),
-        }
+        shown_text(self.locked.charges(), group, file)
     }
 
     /// Stores this text as the unread answer, in place of the one before.
@@ -251,20 +249,6 @@ impl<N: BootName> Drop for Live<N> {
     fn drop(self) {
         let _ended = self.finish();
     }
-}
-
-// The group of this number; None if there is none.
-fn find_group(charges: &Charges, number: u32) -> Option<GroupId>
-    ensures found { IfSome result (λ group. (group ≡ number) × IsTrue (has_group charges.now.groups group)) }
-    ensures none { IfNone result (HasNoGroup charges.now.groups number) }
-{
-    let Some(group) = GroupId::of(number) else {
-        return None;
-    };
-    if !charges.tree().contains(group) {
-        return None;
-    }
-    Some(group)
 }
 
 // Serves the lines of a script on the parts of a boot of these sizes.

@@ -3,7 +3,8 @@
 ghost use Rattle.std.specs.Prelude.{◌≡◌, IsSome, None, Option, Some};
 ghost use Rattle.boot_words.specs.Tables.{KnownTable};
 ghost use Rattle.tempolemon_c.specs.Known.{KnownLive};
-ghost use Rattle.tempolemon_c.specs.Owned.{frames_coded, known_coded, live_owns};
+ghost use Rattle.host_memory.specs.{frames_coded};
+ghost use Rattle.tempolemon_c.specs.Owned.{known_coded, live_owns};
 
 use crate::live::Live;
 use cpu_part::BootName;

@@ -4,14 +4,16 @@ ghost use Rattle.std.specs.Prelude.{◌≡◌, IsSome, IsSomeAnd, None, Option};
 ghost use Rattle.boot_words.specs.Tables.{KnownTable};
 ghost use Rattle.tempolemon_c.specs.HandleCalls.{CallsLive, ChecksPin, GroupHasFiles, IsTypedCall, ShowsFile};
 ghost use Rattle.tempolemon_c.specs.Known.{KnownLive};
-ghost use Rattle.tempolemon_c.specs.Owned.{brand, frames_coded, known_coded, live_owns};
-ghost use Rattle.tempolemon_c.specs.Serving.{IsFit, OnRaw, ServesRaw};
+ghost use Rattle.host_memory.specs.{OnPointer, brand, frames_coded};
+ghost use Rattle.tempolemon_c.specs.Owned.{known_coded, live_owns};
+ghost use Rattle.tempolemon_c.specs.Serving.{IsFit, ServesRaw};
 
-use crate::calls::{Call, CallAnswer, FileText, PinCheck};
+use crate::calls::{Call, CallAnswer, PinCheck};
 use crate::live_pointer::LivePointer;
 use crate::requests::{Request, RequestAnswer};
 use crate::serving::{call_pointer, check_pin, serve, show_file};
 use control_files::file::File;
+use control_files::text::ArrayText;
 use group_tree::group::GroupId;
 use std::alloc::Global;
 use std::marker::{Brand, Model};
@@ -82,7 +84,7 @@ pub fn serve_raw(raw: RawBoot, request: Request) -> (RawBoot, RequestAnswer)
 pub fn call_raw(raw: RawBoot, cpu: u32, call: &Call<'_>) -> (RawBoot, CallAnswer)
     requires some { IsSome raw.live }
     requires asked { IsTypedCall call.now }
-    ensures serves { OnRaw (λ from to. CallsLive raw.frames cpu call.now from to result.1)
+    ensures serves { OnPointer (λ from to. CallsLive raw.frames cpu call.now from to result.1)
         raw.frames raw.live result.0.frames result.0.live }
 {
     let (pointer, answer) = call_pointer::<Brand>(raw.into_pointer(), cpu, call);
@@ -90,9 +92,9 @@ pub fn call_raw(raw: RawBoot, cpu: u32, call: &Call<'_>) -> (RawBoot, CallAnswer
 }
 
 /// Returns what a file of a group shows, as `show_file` does, under the name that it picks for the table.
-pub fn show_raw(raw: RawBoot, group: GroupId, file: File) -> (RawBoot, FileText)
+pub fn show_raw(raw: RawBoot, group: GroupId, file: File) -> (RawBoot, ArrayText)
     requires there { IsSomeAnd raw.live (GroupHasFiles group file) }
-    ensures shows { OnRaw (λ from to. ShowsFile group file from to result.1)
+    ensures shows { OnPointer (λ from to. ShowsFile group file from to result.1)
         raw.frames raw.live result.0.frames result.0.live }
 {
     let (pointer, shown) = show_file::<Brand>(raw.into_pointer(), group, file);
@@ -102,7 +104,7 @@ pub fn show_raw(raw: RawBoot, group: GroupId, file: File) -> (RawBoot, FileText)
 /// Whether a CPU may have one more pin, as `check_pin` says, under the name that it picks for the table.
 pub fn check_pin_raw(raw: RawBoot, cpu: u32, order: u32) -> (RawBoot, PinCheck)
     requires some { IsSome raw.live }
-    ensures checks { OnRaw (λ from to. ChecksPin cpu order result.1 from to)
+    ensures checks { OnPointer (λ from to. ChecksPin cpu order result.1 from to)
         raw.frames raw.live result.0.frames result.0.live }
 {
     let (pointer, check) = check_pin::<Brand>(raw.into_pointer(), cpu, order);

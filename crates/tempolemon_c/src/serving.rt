@@ -2,14 +2,16 @@
 
 ghost use Rattle.std.specs.Prelude.{◌≡◌, IsSome, IsSomeAnd, None};
 ghost use Rattle.tempolemon_c.specs.HandleCalls.{CallsLive, ChecksPin, GroupHasFiles, IsTypedCall, ShowsFile};
-ghost use Rattle.tempolemon_c.specs.Serving.{IsFit, OnLive, ServesRequest, frames_after_request};
+ghost use Rattle.host_memory.specs.{OnKnown};
+ghost use Rattle.tempolemon_c.specs.Serving.{IsFit, ServesRequest, frames_after_request};
 ghost use Rattle.tempolemon_c.specs.declared.requests.Request.TheVariants.{End, Lines, Start, StoreUnread, TakeUnread};
 
-use crate::calls::{Call, CallAnswer, FileText, PinCheck};
+use crate::calls::{Call, CallAnswer, PinCheck};
 use crate::live::Live;
 use crate::live_pointer::LivePointer;
 use crate::requests::{Request, RequestAnswer};
 use control_files::file::File;
+use control_files::text::ArrayText;
 use cpu_part::BootName;
 use group_tree::group::GroupId;
 use host_memory::box_parts::BoxParts;
@@ -52,7 +54,7 @@ pub fn call_pointer<N: BootName>(
     requires named { pointer.frames ≡ N.table }
     requires asked { IsTypedCall call.now }
     ensures named { result.0.frames ≡ N.table }
-    ensures serves { OnLive (λ from to. CallsLive N.table cpu call.now from to result.1)
+    ensures serves { OnKnown (λ from to. CallsLive N.table cpu call.now from to result.1)
         pointer.live result.0.live }
 {
     let mut live = pointer.into_box_parts().into_box();
@@ -65,11 +67,11 @@ pub fn show_file<N: BootName>(
     pointer: LivePointer<N>,
     group: GroupId,
     file: File,
-) -> (LivePointer<N>, FileText)
+) -> (LivePointer<N>, ArrayText)
     requires there { IsSomeAnd pointer.live (GroupHasFiles group file) }
     requires named { pointer.frames ≡ N.table }
     ensures named { result.0.frames ≡ N.table }
-    ensures shows { OnLive (λ from to. ShowsFile group file from to result.1) pointer.live result.0.live }
+    ensures shows { OnKnown (λ from to. ShowsFile group file from to result.1) pointer.live result.0.live }
 {
     let live = pointer.into_box_parts().into_box();
     let shown = live.show(group, file);
@@ -85,7 +87,7 @@ pub fn check_pin<N: BootName>(
     requires some { IsSome pointer.live }
     requires named { pointer.frames ≡ N.table }
     ensures named { result.0.frames ≡ N.table }
-    ensures checks { OnLive (λ from to. ChecksPin cpu order result.1 from to) pointer.live result.0.live }
+    ensures checks { OnKnown (λ from to. ChecksPin cpu order result.1 from to) pointer.live result.0.live }
 {
     let live = pointer.into_box_parts().into_box();
     let check = live.check_pin(cpu, order);

@@ -5,6 +5,7 @@ use Rattle.std.specs.Prelude.{ℕ, Bool, IsSome, IsSomeAnd, Option}
 use Rattle.std.specs.Global.{Global, Box}
 use Rattle.boot_words.specs.Tables.{KnownTable}
 use Rattle.host_memory.specs.Cells.{KnownLoan}
+use Rattle.host_memory.specs.{OnKnown, led, led_of}
 use Rattle.mem_system.specs.{CpuInRun, HasEnded}
 use Rattle.mem_system.specs.declared.end_with_pins.SystemEnd.{SystemEnd}
 use Rattle.zone_threads.specs.Homes.{EndsParked, HasCpu, HasNoCpu, IfNotEntered, KnownBehind, KnownHome}
@@ -12,23 +13,11 @@ use Rattle.zone_threads.specs.declared.home.NotEntered.{NotEntered}
 use Rattle.zone_threads.specs.declared.home.NotEntered.TheVariants as not_entered
 use Rattle.zone_threads.specs.declared.home.NotLeft.{NotLeft}
 use Rattle.zone_threads.specs.declared.home.NotLeft.TheVariants as not_left
-use Rattle.tempolemon_threads.specs.Serving.{DropsHome, OnHome, OnRawHome, ServesHomeRequest, ServesRawHome}
+use Rattle.tempolemon_threads.specs.Serving.{DropsHome, ServesHomeRequest, ServesRawHome}
 use Rattle.tempolemon_threads.specs.declared.requests.Request.TheVariants.{End, Enter, Leave}
 use Rattle.tempolemon_threads.specs.declared.requests.RequestAnswer.{RequestAnswer}
 use Rattle.tempolemon_threads.specs.declared.requests.RequestAnswer.TheVariants as answer
-use Rattle.tempolemon_threads.specs.{EndsAs, IsCpuHandle, OnPart, led, led_of}
-
--- what was done to the home that the pointer leads to was done behind the handle
-pub crossed : (does : KnownTable → (from to : KnownHome) → Type 0) (f : KnownTable) (o : Option KnownHome) (g : KnownTable) (p : Option KnownHome)
-    → OnRawHome (does f) f o g p → OnPart does (led_of f o) (led_of g p)
-crossed does f o g p on = record {
-  frames = f;
-  from = on.on_home.from;
-  to = on.on_home.to;
-  was = ap (led_of f) on.on_home.was;
-  is = ap (λ (h : KnownTable). led_of h p) on.frames_are ∙ ap (led_of f) on.on_home.is;
-  done = on.on_home.done;
-}
+use Rattle.tempolemon_threads.specs.{EndsAs, IsCpuHandle}
 
 -- a CPU's handle leads to a home with a CPU, if to anything
 pub cpu_behind : (f : KnownTable) (is_live : Bool) (o : Option KnownHome) → IsCpuHandle is_live o → IsSome (led_of f o)
@@ -79,7 +68,7 @@ pub refused_gone : (f g : KnownTable) (a : Global) (number : ℕ) (home between 
     (said left : RequestAnswer) (reason : NotEntered) → IsSomeAnd home HasNoCpu → ServesHomeRequest f home (Enter number) between said
     → said ≡ answer.NotEntered reason → ServesHomeRequest g between (Leave a) after left → after ≡ None
 refused_gone f g a number home between after said left reason none enters is leaves =
-    let on : OnHome (λ (from to : KnownHome). IfNotEntered f.cpus number from reason to) home between =
+    let on : OnKnown (λ (from to : KnownHome). IfNotEntered f.cpus number from reason to) home between =
     subst (λ (x : RequestAnswer). ServesHomeRequest f home (Enter number) between x) is enters in
     let was : HasNoCpu on.from = subst (λ (o : Option KnownHome). IsSomeAnd o HasNoCpu) on.was none in
     let now : HasNoCpu on.to = subst HasNoCpu (sym (home_stays f.cpus number on.from on.to reason on.done)) was in

@@ -1,38 +1,13 @@
 -- The statuses and the results of typed calls, with their kinds as the header numbers them.
 use Rattle.std.specs.Prelude.{ℕ, length}
 use Rattle.group_tree.specs.Faults.{number_of}
-use Rattle.mem_system.specs.declared.outcome.Outcome.{Outcome}
-use Rattle.mem_system.specs.declared.outcome.Outcome.TheVariants as outcome
 use Rattle.zone_threads.specs.declared.calls.CallAnswer.{CallAnswer}
 use Rattle.zone_threads.specs.declared.calls.CallAnswer.TheVariants as answer
 use Rattle.zone_threads.specs.declared.calls.ReadAnswer.{ReadAnswer}
 use Rattle.zone_threads.specs.declared.calls.ReadAnswer.TheVariants as read
-use Rattle.host_memory.specs.{get_result, no_result, put_result, result_with, bad_frame, bad_group, done, over_limit}
+use Rattle.host_memory.specs.{get_result, no_result, outcome_result, outcome_status, put_result, result_with, bad_frame, bad_group, done}
 use Rattle.host_memory.specs.declared.typed_result.TypedResult.{TypedResult}
 use Rattle.tempolemon_threads.specs.Statuses.{busy}
-
--- the result of an outcome; a text has its length from the read that returns it
-abbrev pub outcome_result : Outcome → TypedResult
-outcome_result outcome.Done = result_with 1 0
-outcome_result (outcome.Group group) = result_with 2 group
-outcome_result (outcome.Frame frame) = result_with 3 frame
-outcome_result (outcome.Text group file) = result_with 4 0
-outcome_result (outcome.Stat stat) = result_with 4 0
-outcome_result outcome.Free = result_with 5 0
-outcome_result (outcome.Lent cpu) = result_with 6 cpu
-outcome_result (outcome.Charged group) = result_with 7 group
-outcome_result outcome.Marked = result_with 8 0
-outcome_result outcome.Active = result_with 9 0
-outcome_result (outcome.Left references) = result_with 10 references
-outcome_result outcome.Returned = result_with 11 0
-outcome_result (outcome.OverLimit group) = result_with 20 group
-outcome_result (outcome.Refused fault) = result_with 20 0
-
--- the status of an outcome: a refusal's number, or 0
-abbrev pub outcome_status : Outcome → ℕ
-outcome_status (outcome.OverLimit group) = over_limit
-outcome_status (outcome.Refused fault) = number_of fault
-outcome_status other = done
 
 -- the result of an answer
 abbrev pub call_result_of : CallAnswer → TypedResult
@@ -41,7 +16,7 @@ call_result_of answer.NoFrame = no_result
 call_result_of answer.NoGroup = no_result
 call_result_of (answer.Pages pages) = result_with 22 pages
 call_result_of answer.NoLimit = result_with 23 0
-call_result_of (answer.Served outcome) = outcome_result outcome
+call_result_of (answer.Served outcome) = outcome_result 0 outcome
 call_result_of (answer.Taken frame) = result_with 3 frame
 call_result_of answer.Listed = result_with 13 0
 call_result_of (answer.Got got) = get_result got

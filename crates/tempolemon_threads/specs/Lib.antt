@@ -9,4 +9,4 @@ pub mod Serving
 -- what other crates and the proofs import by one name, `Rattle.tempolemon_threads.specs`
 pub use Rattle.tempolemon_threads.specs.Behind.{zone_behind}
 pub use Rattle.tempolemon_threads.specs.Handling.{EndsAs}
-pub use Rattle.tempolemon_threads.specs.Handles.{IsCpuHandle, OnPart, led, led_of}
+pub use Rattle.tempolemon_threads.specs.Handles.{IsCpuHandle}

@@ -5,6 +5,7 @@ use Rattle.boot_words.specs.Tables.{KnownTable}
 use Rattle.mem_system.specs.EndsWithPins.{HasEnded}
 use Rattle.zone_threads.specs.{HasCpu, HasNoCpu, IfNotEntered, KnownHome, TakesCpu, ReadsText}
 use Rattle.zone_threads.specs.declared.home.NotLeft.TheVariants as not_left
+use Rattle.host_memory.specs.{OnKnown}
 use Rattle.tempolemon_threads.specs.declared.requests.Request.{Request}
 use Rattle.tempolemon_threads.specs.declared.requests.Request.TheVariants.{Start, Enter, Leave, Text, End}
 use Rattle.tempolemon_threads.specs.declared.requests.RequestAnswer.{RequestAnswer}
@@ -33,20 +34,6 @@ IsFitForHome (Some home) (Leave alloc) = Unit {0}
 IsFitForHome (Some home) (Text alloc asked) = HasCpu home
 IsFitForHome (Some home) (End alloc) = HasNoCpu home
 
--- there is a home before and after, and `does` leads from one to the other
-pub record OnHome (does : (from to : KnownHome) → Type 0) (before after : Option KnownHome) : Type 0 where
-  pub from : KnownHome
-  pub to : KnownHome
-  pub was : before ≡ Some from
-  pub is : after ≡ Some to
-  pub done : does from to
-
--- the same, and the table stays
-pub record OnRawHome (does : (from to : KnownHome) → Type 0) (old_frames : KnownTable)
-    (before : Option KnownHome) (frames : KnownTable) (after : Option KnownHome) : Type 0 where
-  pub frames_are : frames ≡ old_frames
-  pub on_home : OnHome does before after
-
 -- there is a home now, of a boot of these sizes, without a CPU
 pub record StartsHome (sizes : Config) (after : Option KnownHome) : Type 0 where
   pub home : KnownHome
@@ -74,9 +61,9 @@ abbrev pub ServesHomeRequest : KnownTable → (before : Option KnownHome) (reque
 ServesHomeRequest frames before (Start alloc boot) after returned.Started = StartsHome boot.sizes after
 ServesHomeRequest frames before (Start alloc boot) after returned.NoMemory = after ≡ None
 ServesHomeRequest frames before (Enter number) after returned.Entered =
-    OnHome (TakesCpu number) before after
+    OnKnown (TakesCpu number) before after
 ServesHomeRequest frames before (Enter number) after (returned.NotEntered reason) =
-    OnHome (λ from to. IfNotEntered frames.cpus number from reason to) before after
+    OnKnown (λ from to. IfNotEntered frames.cpus number from reason to) before after
 ServesHomeRequest frames before (Leave alloc) after (returned.Left shown) =
     LeavesHome before after
 ServesHomeRequest frames before (Leave alloc) after (returned.NotLeft not_left.NoCpu) =
@@ -84,7 +71,7 @@ ServesHomeRequest frames before (Leave alloc) after (returned.NotLeft not_left.N
 ServesHomeRequest frames before (Leave alloc) after (returned.NotLeft not_left.Busy) =
     IsSomeAnd before HasCpu × (after ≡ before)
 ServesHomeRequest frames before (Text alloc asked) after (returned.Text text) =
-    OnHome (ReadsText frames asked text) before after
+    OnKnown (ReadsText frames asked text) before after
 ServesHomeRequest frames before (Text alloc asked) after returned.Busy = after ≡ before
 ServesHomeRequest frames before (End alloc) after returned.Out = after ≡ before
 ServesHomeRequest frames before (End alloc) after (returned.Ended ended) =

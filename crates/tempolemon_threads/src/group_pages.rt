@@ -105,6 +105,38 @@ pub extern "C" fn tempolemon_try_set_high(
     serve_call(alloc, part, &Call::ForGroup { group, act }, out)
 }
 
+/// Sets memory.low of the group of this number, as a write of it does.
+#[unsafe(no_mangle)]
+pub extern "C" fn tempolemon_try_set_low(
+    alloc: Global,
+    part: &mut CpuPart,
+    group: u32,
+    pages: u64,
+    out: &mut TypedResult,
+) -> u8
+    ensures { CallsPart (ForGroup group (act.Write (setting.Low (limit_of_pages pages))))
+        (part_behind part.old) (part_behind part.new) result out.new }
+{
+    let act = GroupAct::Write(Setting::Low(limit_of_pages(pages)));
+    serve_call(alloc, part, &Call::ForGroup { group, act }, out)
+}
+
+/// Sets memory.min of the group of this number, as a write of it does.
+#[unsafe(no_mangle)]
+pub extern "C" fn tempolemon_try_set_min(
+    alloc: Global,
+    part: &mut CpuPart,
+    group: u32,
+    pages: u64,
+    out: &mut TypedResult,
+) -> u8
+    ensures { CallsPart (ForGroup group (act.Write (setting.Min (limit_of_pages pages))))
+        (part_behind part.old) (part_behind part.new) result out.new }
+{
+    let act = GroupAct::Write(Setting::Min(limit_of_pages(pages)));
+    serve_call(alloc, part, &Call::ForGroup { group, act }, out)
+}
+
 /// Reclaims so many pages from the group of this number and those below it, as a write of memory.reclaim does.
 #[unsafe(no_mangle)]
 pub extern "C" fn tempolemon_try_reclaim(

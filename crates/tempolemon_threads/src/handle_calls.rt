@@ -1,11 +1,12 @@
 //! What is done with what a handle leads to.
 
 ghost use Rattle.std.specs.Prelude.{◌≡◌, ◌↔◌, IfNone, IfSome, IsSome, IsSomeAnd, IsTrue, MatchBool, MatchResult, None};
+ghost use Rattle.host_memory.specs.{OnHandle, led_of};
 ghost use Rattle.mem_system.specs.Boots.{IsSizedAs};
 ghost use Rattle.zone_threads.specs.{Calls, AnswersRead, HasNoCpu, ReadsText};
 ghost use Rattle.tempolemon_threads.specs.Behind.{part_behind, zone_behind};
 ghost use Rattle.tempolemon_threads.specs.Handling.{EndsAs, EntersNone, ForksAs};
-ghost use Rattle.tempolemon_threads.specs.Handles.{BootsZone, OnPart, ReturnsPart, TakesPart, led_of};
+ghost use Rattle.tempolemon_threads.specs.Handles.{BootsZone, ReturnsPart, TakesPart};
 
 use crate::handles::{CpuPart, Zone};
 use crate::raw::{RawHome, call_raw, fork_raw, read_raw, serve_raw};
@@ -127,10 +128,10 @@ impl CpuPart {
 
     /// Serves a call of the CPU.
     #[inline(always)]
-    #[tactic(auto, using(crate::proofs::Crossing::crossed, crate::proofs::Crossing::cpu_behind))]
+    #[tactic(auto, using(host_memory::proofs::Crossing::crossed, crate::proofs::Crossing::cpu_behind))]
     pub(crate) fn call(&mut self, alloc: Global, call: &Call<'_>) -> CallAnswer
         requires live { IsSome (part_behind self.old) }
-        ensures { OnPart (λ frames from to. Calls frames call.now from to result)
+        ensures { OnHandle (λ frames from to. Calls frames call.now from to result)
             (part_behind self.old) (part_behind self.new) }
     {
         let raw = self.raw.take(alloc);
@@ -140,10 +141,10 @@ impl CpuPart {
     }
 
     /// Reads a file for the CPU.
-    #[tactic(auto, using(crate::proofs::Crossing::crossed, crate::proofs::Crossing::cpu_behind))]
+    #[tactic(auto, using(host_memory::proofs::Crossing::crossed, crate::proofs::Crossing::cpu_behind))]
     pub(crate) fn read(&mut self, alloc: Global, asked: &ReadCall<'_>) -> ReadAnswer
         requires live { IsSome (part_behind self.old) }
-        ensures { OnPart (λ frames from to. AnswersRead frames asked.now from to result)
+        ensures { OnHandle (λ frames from to. AnswersRead frames asked.now from to result)
             (part_behind self.old) (part_behind self.new) }
     {
         let raw = self.raw.take(alloc);
@@ -156,7 +157,7 @@ impl CpuPart {
     pub(crate) fn text(&mut self, alloc: Global, asked: TextCall) -> Option<TextAnswer>
         requires live { IsSome (part_behind self.old) }
         ensures shown { IfSome result (λ answer.
-            OnPart (λ frames. ReadsText frames asked answer) (part_behind self.old)
+            OnHandle (λ frames. ReadsText frames asked answer) (part_behind self.old)
             (part_behind self.new)) }
         ensures busy { IfNone result (part_behind self.new ≡ part_behind self.old) }
     {

@@ -3,7 +3,8 @@
 ghost use Rattle.std.specs.Prelude.{◌≡◌, IsSome, None, Option, Some};
 ghost use Rattle.boot_words.specs.Tables.{KnownTable};
 ghost use Rattle.zone_threads.specs.Homes.{KnownHome};
-ghost use Rattle.tempolemon_threads.specs.Owned.{frames_coded, home_owns, home_coded};
+ghost use Rattle.host_memory.specs.{frames_coded};
+ghost use Rattle.tempolemon_threads.specs.Owned.{home_owns, home_coded};
 
 use cpu_part::BootName;
 use host_memory::box_parts::BoxParts;

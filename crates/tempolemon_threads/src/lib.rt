@@ -19,7 +19,6 @@ mod handle_calls;
 mod handles;
 pub mod home_pointer;
 pub mod raw;
-mod report;
 pub mod requests;
 pub mod serving;
 mod status;

@@ -3,8 +3,9 @@
 ghost use Rattle.std.specs.Prelude.{◌≡◌, IsSome, IsSomeAnd, None, Option};
 ghost use Rattle.boot_words.specs.Tables.{KnownTable};
 ghost use Rattle.zone_threads.specs.{AnswersRead, Calls, HasCpu, KnownHome};
-ghost use Rattle.tempolemon_threads.specs.Owned.{brand, frames_coded, home_owns, home_coded};
-ghost use Rattle.tempolemon_threads.specs.Serving.{ForksRaw, IsFitForHome, OnRawHome, ServesRawHome};
+ghost use Rattle.host_memory.specs.{OnPointer, brand, frames_coded};
+ghost use Rattle.tempolemon_threads.specs.Owned.{home_owns, home_coded};
+ghost use Rattle.tempolemon_threads.specs.Serving.{ForksRaw, IsFitForHome, ServesRawHome};
 
 use crate::home_pointer::HomePointer;
 use crate::requests::{Forked, Request, RequestAnswer};
@@ -101,7 +102,7 @@ pub fn serve_raw(raw: RawHome, request: Request) -> (RawHome, RequestAnswer)
 #[inline(always)]
 pub fn call_raw(raw: RawHome, call: &Call<'_>) -> (RawHome, CallAnswer)
     requires cpu { IsSomeAnd raw.home HasCpu }
-    ensures serves { OnRawHome (λ from to. Calls raw.frames call.now from to result.1)
+    ensures serves { OnPointer (λ from to. Calls raw.frames call.now from to result.1)
         raw.frames raw.home result.0.frames result.0.home }
 {
     let (pointer, answer) = call_pointer::<Brand>(raw.into_pointer(), call);
@@ -111,7 +112,7 @@ pub fn call_raw(raw: RawHome, call: &Call<'_>) -> (RawHome, CallAnswer)
 /// Serves a read of a file for the home's CPU, as `serve_read` does, under the name that it picks.
 pub fn read_raw(raw: RawHome, asked: &ReadCall<'_>) -> (RawHome, ReadAnswer)
     requires cpu { IsSomeAnd raw.home HasCpu }
-    ensures serves { OnRawHome (λ from to. AnswersRead raw.frames asked.now from to result.1)
+    ensures serves { OnPointer (λ from to. AnswersRead raw.frames asked.now from to result.1)
         raw.frames raw.home result.0.frames result.0.home }
 {
     let (pointer, answer) = serve_read::<Brand>(raw.into_pointer(), asked);

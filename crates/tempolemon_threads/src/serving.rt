@@ -2,7 +2,8 @@
 
 ghost use Rattle.std.specs.Prelude.{◌≡◌, IsSome, IsSomeAnd, None};
 ghost use Rattle.zone_threads.specs.{Calls, AnswersRead, HasCpu, HasNoCpu};
-ghost use Rattle.tempolemon_threads.specs.Serving.{Forks, IsFitForHome, OnHome, ServesHomeRequest, home_frames_after};
+ghost use Rattle.host_memory.specs.{OnKnown};
+ghost use Rattle.tempolemon_threads.specs.Serving.{Forks, IsFitForHome, ServesHomeRequest, home_frames_after};
 ghost use Rattle.tempolemon_threads.specs.declared.requests.Request.TheVariants.{End, Enter, Leave, Start, Text};
 
 use crate::home_pointer::HomePointer;
@@ -43,7 +44,7 @@ pub fn call_pointer<N: BootName>(
     requires cpu { IsSomeAnd pointer.home HasCpu }
     requires named { pointer.frames ≡ N.table }
     ensures named { result.0.frames ≡ N.table }
-    ensures serves { OnHome (λ from to. Calls N.table call.now from to result.1)
+    ensures serves { OnKnown (λ from to. Calls N.table call.now from to result.1)
         pointer.home result.0.home }
 {
     let mut home = pointer.into_box_parts().into_box();
@@ -59,7 +60,7 @@ pub fn serve_read<N: BootName>(
     requires cpu { IsSomeAnd pointer.home HasCpu }
     requires named { pointer.frames ≡ N.table }
     ensures named { result.0.frames ≡ N.table }
-    ensures serves { OnHome (λ from to. AnswersRead N.table asked.now from to result.1)
+    ensures serves { OnKnown (λ from to. AnswersRead N.table asked.now from to result.1)
         pointer.home result.0.home }
 {
     let mut home = pointer.into_box_parts().into_box();

@@ -8,10 +8,9 @@ ghost use Rattle.tempolemon_threads.specs.Statuses.{busy, cpu_out, cpus_out};
 ghost use Rattle.tempolemon_threads.specs.Handles.{BootsZone, EndsWith, HasNoSuchCpu, HasSuchCpu, ReturnsPart, TakesPart};
 
 use crate::handles::{CpuPart, Zone};
-use crate::report::report_of;
 use crate::requests::{Forked, RequestAnswer};
 use crate::status::{BUSY, CPU_OUT, CPUS_OUT, LOST};
-use host_memory::report::Report;
+use host_memory::report::{Report, report_of};
 use host_memory::sizes::Sizes;
 use host_memory::status::{BAD_CONFIG, BAD_CPU, BAD_VERSION, DONE, IS_LIVE, NO_MEMORY, NOT_LIVE};
 use host_memory::version::HEADER_VERSION;

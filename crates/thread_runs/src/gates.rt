@@ -2,7 +2,7 @@
 //! makes threads take turns, line by line. One lets both begin together. The others hold nobody, and note or count
 //! their calls.
 
-use mem_system::Gate;
+use script_replay::Gate;
 use std::alloc::{AllocError, Global};
 use std::sync::atomic::{AtomicBool, AtomicU64, Ordering};
 use std::thread;

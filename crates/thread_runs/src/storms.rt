@@ -3,12 +3,11 @@
 ghost use Rattle.std.specs.Prelude.{◌≡◌, ◌<◌, length};
 
 use crate::systems::{add, expect_true, run_script};
-use mem_system::NoGate;
 use rand_core::{Rng, SeedableRng};
 use rand_pcg::Pcg32;
 use script_lines::line::{Command, Line};
 use script_lines::script::parse_script;
-use script_replay::before_go;
+use script_replay::{NoGate, before_go};
 use std::process::Abort;
 use std::slice::Iter;
 use std::str;

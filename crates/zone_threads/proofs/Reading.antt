@@ -2,6 +2,7 @@
 use Rattle.std.proofs.Common.{◌≡◌, ◌≢◌, ◌⊎◌, ℕ, List, Some, inl, inr, refl, subst, sym, ◌∙◌}
 use Rattle.std.specs.Borrow.{Bor}
 use Rattle.group_tree.specs.declared.fault.Fault.{Fault}
+use Rattle.group_tree.specs.declared.fault.Fault.TheVariants.{WriteOnly}
 use Rattle.group_tree.specs.declared.group.Group.{Group}
 use Rattle.control_files.specs.declared.file.File.{File}
 use Rattle.control_files.specs.declared.file.File.TheVariants.{Current, Max, High, Low, Min, Peak, Events, EventsLocal, OomGroup, Reclaim, Stat}
@@ -26,18 +27,19 @@ use Rattle.zone_threads.specs.{KnownHome, AnswersRead, IsReadUnderLock}
 
 -- ---- a Read is refused, or shows a text
 
--- what a file shows is memory.stat or another text
-shows : (m : KnownMachine) (g : ℕ) (file : File) → ((sums : MemoryStat) × (read_outcome m g file ≡ outcome.Stat sums)) ⊎ (read_outcome m g file ≡ outcome.Text g file)
-shows m g Current = inr refl
-shows m g Max = inr refl
-shows m g High = inr refl
-shows m g Low = inr refl
-shows m g Min = inr refl
-shows m g Peak = inr refl
-shows m g Events = inr refl
-shows m g EventsLocal = inr refl
-shows m g OomGroup = inr refl
-shows m g Reclaim = inr refl
+-- a file shows memory.stat or another text, or it can't be read
+shows : (m : KnownMachine) (g : ℕ) (file : File)
+    → ((sums : MemoryStat) × (read_outcome m g file ≡ outcome.Stat sums)) ⊎ (read_outcome m g file ≡ outcome.Text g file) ⊎ (read_outcome m g file ≡ outcome.Refused WriteOnly)
+shows m g Current = inr (inl refl)
+shows m g Max = inr (inl refl)
+shows m g High = inr (inl refl)
+shows m g Low = inr (inl refl)
+shows m g Min = inr (inl refl)
+shows m g Peak = inr (inl refl)
+shows m g Events = inr (inl refl)
+shows m g EventsLocal = inr (inl refl)
+shows m g OomGroup = inr (inl refl)
+shows m g Reclaim = inr (inr refl)
 shows m g Stat = inl (_, refl)
 
 module _ (given : Outcome) (refused : (why : Fault) → given ≢ outcome.Refused why) (stat : (sums : MemoryStat) → given ≢ outcome.Stat sums)
@@ -46,7 +48,10 @@ module _ (given : Outcome) (refused : (why : Fault) → given ≢ outcome.Refuse
       → StandsFor groups (Read path name) c → Executes sizes c given call → ⊥
   read_by_number groups path name (cmd.Read g file) sizes call stands does = elim (shows call.before.machine g file) [
     | inl sums ↦ stat sums.0 (does.0 ∙ sums.1)
-    | inr other ↦ text g file (does.0 ∙ other)
+    | inr other ↦ elim other [
+      | inl is ↦ text g file (does.0 ∙ is)
+      | inr is ↦ refused WriteOnly (does.0 ∙ is)
+    ]
   ]
   read_by_number groups path name other sizes call stands does = absurd stands
 

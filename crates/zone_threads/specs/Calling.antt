@@ -1,14 +1,14 @@
 -- What each call does to the CPU of a thread, by its answer, and by which steps of the run.
-use Rattle.std.specs.Prelude.{◌≡◌, ◌≢◌, ◌+◌, ◌<◌, ◌≤◌, ◌⊎◌, ◌++◌, ◌∷◌, [], ℕ, zero, suc, true, false, List, length, None, Ok, Option}
+use Rattle.std.specs.Prelude.{◌≡◌, ◌≢◌, ◌+◌, ◌<◌, ◌≤◌, ◌⊎◌, ◌++◌, ◌∷◌, [], ℕ, zero, suc, true, List, length, None, Ok, Option}
 use Rattle.std.specs.Prelude.{Some}
 use Rattle.frame_word.specs.declared.answers.Get.{Get}
 use Rattle.frame_word.specs.declared.answers.Get.TheVariants.{Full, Held, Raced, Zero}
 use Rattle.frame_word.specs.declared.answers.Put.{Put}
 use Rattle.zone_blocks.specs.declared.config.Config.{Config}
 use Rattle.group_tree.specs.{most_groups, has_group, limit_of}
-use Rattle.group_tree.specs.declared.group.Group.{Group}
 use Rattle.group_tree.specs.declared.fault.Fault.TheVariants.{BadLimit, BadOrder, NoFile, NotPinned, PinsFull}
 use Rattle.group_charge.specs.Charges.{Ledger, current_of, peak_of, settings_of}
+use Rattle.host_memory.specs.{IsMissingIn}
 use Rattle.boot_words.specs.{GrewByAll, OthersFollow, RacesAt, own_past, zone_of_boot, KnownTable}
 use Rattle.boot_words.specs.Pasts.{get_said}
 use Rattle.step_rules.specs.State.{times, most_pins, most_references}
@@ -20,9 +20,8 @@ use Rattle.cpu_part.specs.declared.answers.Dropped.TheVariants.{Listed, NeedVisi
 use Rattle.cpu_part.specs.declared.answers.Fast.{Fast}
 use Rattle.cpu_part.specs.declared.answers.Fast.TheVariants.{Got}
 use Rattle.mem_system.specs.{IsOfZone, CpuInRun, ServesDirtyAlloc, SeenBehindLock, SettlesCaller, IsServed, IsVisited, LockedState}
-use Rattle.mem_system.specs.{RepliesTo, ServesText}
+use Rattle.mem_system.specs.{IsShownText, ServesText}
 use Rattle.mem_system.specs.declared.command.LockedCommand.TheVariants as cmd
-use Rattle.mem_system.specs.declared.command.ReplyWithText.TheVariants as reply
 use Rattle.mem_system.specs.declared.outcome.Outcome.{Outcome}
 use Rattle.mem_system.specs.declared.outcome.Outcome.TheVariants.{Frame, Refused}
 use Rattle.mem_system.specs.declared.setting.Setting.TheVariants.{Reclaim}
@@ -172,10 +171,6 @@ pub record Then (first rest : (from to : CpuInRun) → Type 0) (from to : CpuInR
   pub first_done : first from between
   pub rest_done : rest between to
 
--- no group has this number; those of groups are below 64
-abbrev pub IsMissingIn : List Group → ℕ → Type 0
-IsMissingIn groups number = (most_groups ≤ number) ⊎ (has_group groups number ≡ false)
-
 -- behind the lock, no group had this number: the CPU has seen the run that led to this
 abbrev pub NoGroupBehindLock : KnownTable → ℕ → (from to : CpuInRun) → Type 0
 NoGroupBehindLock frames group from to =
@@ -288,14 +283,20 @@ Calls frames call.Settle from to answer.Settled =
     OnCpu (IsVisited frames from.sizes (SettlesCaller frames)) from to
 Calls frames asked from to returned = ⊥
 
+-- a read was served, and this is the text of the file that its outcome shows
+pub record ShowsText (frames : KnownTable) (asked : ReadCall) (text : List ℕ) (before after : LockedState) : Type 0 where
+  pub outcome : Outcome
+  pub serves : ServesText frames (command.Read asked.path asked.file) outcome before after
+  pub is_text : IsShownText after.locked.machine.ledger outcome text
+
 -- what a read of a file does under the lock, by its answer
 abbrev pub IsReadUnderLock : KnownTable → (sizes : Config) → ReadCall → (from to : CpuInRun)
     → ReadAnswer → Type 0
 IsReadUnderLock frames sizes asked from to read.Busy = ⊥
 IsReadUnderLock frames sizes asked from to (read.Text text) =
-    IsVisited frames sizes (RepliesTo frames (command.Read asked.path asked.file) (reply.Text text)) from to
+    IsVisited frames sizes (ShowsText frames asked text) from to
 IsReadUnderLock frames sizes asked from to (read.Refused fault) =
-    IsVisited frames sizes (RepliesTo frames (command.Read asked.path asked.file) (reply.Refused fault)) from to
+    IsVisited frames sizes (ServesText frames (command.Read asked.path asked.file) (Refused fault)) from to
 
 -- what a read of a file does, by its answer
 abbrev pub AnswersRead : KnownTable → ReadCall → (from to : KnownHome) → ReadAnswer → Type 0

@@ -4,23 +4,23 @@ ghost use Rattle.std.specs.Prelude.{◌≡◌, ◌<◌, IfNone, IfSome, IsTrue, 
 ghost use Rattle.frame_word.specs.declared.answers.Get.TheVariants.{Held};
 ghost use Rattle.group_tree.specs.Groups.{has_group};
 ghost use Rattle.mem_system.specs.{IsOfZone, SettlesCaller, IsVisited, ServesText, locked_state};
-ghost use Rattle.zone_threads.specs.Calling.{NoGroupBehindLock, IsMissingIn, IsReadUnderLock, ServesAct};
+ghost use Rattle.zone_threads.specs.Calling.{NoGroupBehindLock, IsReadUnderLock, ServesAct};
 ghost use Rattle.zone_threads.specs.Calling.{AllocatesPinned, HasPinRoom, MayPinBlock, MissesPin, Pins};
 ghost use Rattle.zone_threads.specs.Calling.{ReadsPages, SaysPages};
 ghost use Rattle.zone_threads.specs.Homes.{KeepsParked};
 
 use crate::behind::Behind;
 use crate::calls::{CallAnswer, GroupAct, GroupPages, ReadAnswer, ReadCall};
-use control_files::file::file_text;
 use control_files::stat::stat_text;
 use cpu_part::{BootName, Tables};
 use frame_word::Get;
 use group_charge::charges::Charges;
 use group_tree::fault::Fault;
 use group_tree::group::GroupId;
+use host_memory::groups::find_group;
 use mem_system::{
     Cpu, Locked, LockedCommand, Outcome, Setting, TextCommand, serve_dirty_alloc, serve_outcome,
-    serve_settle, serve_text,
+    serve_settle, serve_text, shown_text,
 };
 
 /// Why nothing was allocated under the lock.
@@ -165,10 +165,7 @@ impl<N: BootName> Behind<N> {
         let Outcome::Text(group, file) = outcome else {
             unreachable!()
         };
-        match file_text(self.locked.charges(), group, file) {
-            Ok(text) => ReadAnswer::Text(text),
-            Err(fault) => ReadAnswer::Refused(fault),
-        }
+        ReadAnswer::Text(shown_text(self.locked.charges(), group, file))
     }
 }
 
@@ -231,20 +228,6 @@ fn pin<N: BootName>(tables: &Tables<N>, cpu: &mut Cpu<N>, number: u32) -> bool
         unreachable!()
     };
     matches!(got, Get::Held)
-}
-
-// The group of this number; `None` if there is none.
-fn find_group(charges: &Charges, number: u32) -> Option<GroupId>
-    ensures found { IfSome result (λ group. (group ≡ number) × IsTrue (has_group charges.now.groups group)) }
-    ensures none { IfNone result (IsMissingIn charges.now.groups number) }
-{
-    let Some(group) = GroupId::of(number) else {
-        return None;
-    };
-    if !charges.tree().contains(group) {
-        return None;
-    }
-    Some(group)
 }
 
 // Reads a number of pages of the group of this number.

@@ -7,16 +7,16 @@ use Rattle.group_charge.proofs.walks.count_local_event.Goals as goal
 
 pub returns : goal.returns
 returns c =
-    let now = c.args.accounts.now in
+    let now = c.args.accounts.now.items in
     let i = c.number-number.result in
     let g = c.args.group in
     let own : Account = account_by now g in
-    let within : i < length now = omega (arith, c.requires, c.number-number.ensures.below) in
+    let within : i < length now = omega (arith, c.requires, c.number-number.ensures.value) in
     let read : (d : Account) → get_or now i d ≡ own = λ d. read_at now i g d (empty_account 0) within c.number-number.ensures.value in
-    let was : Account = get_or now i c.index-accounts-number-2.result in
+    let was : Account = c.index_mut.result.now in
     record {
       counted = ap (λ (e : EventCounts). set now i (record was { events_local = e }))
-          (c.with_one_more.ensures ∙ ap (λ (a : Account). with_one_more c.args.key a.events_local) (read _))
-          ∙ ap (λ (a : Account). set now i (record a { events_local = with_one_more c.args.key own.events_local })) (read c.index-accounts-number-2.result)
+          (c.with_one_more.ensures ∙ ap (λ (a : Account). with_one_more c.args.key a.events_local) (c.index.ensures ∙ read _))
+          ∙ ap (λ (a : Account). set now i (record a { events_local = with_one_more c.args.key own.events_local })) (c.index_mut.ensures.value ∙ read _)
           ∙ ap (λ j. set now j (record own { events_local = with_one_more c.args.key own.events_local })) c.number-number.ensures.value;
     }

@@ -6,4 +6,4 @@ use Rattle.group_charge.proofs.walks.raise_peaks.Given as goal
 
 abbrev pub invariant-loop-ancestor : goal.invariant-loop-ancestor
 invariant-loop-ancestor l =
-    Walking Account (empty_account 0) l.tree (λ _. true) l.fn.group (with_usage_peak l.usages) l.initial.accounts l.ancestor-iterator l.accounts
+    Walking Account (empty_account 0) l.tree (λ _. true) l.fn.group (with_usage_peak l.usages.items) l.initial.accounts.items l.ancestor-iterator l.accounts.items

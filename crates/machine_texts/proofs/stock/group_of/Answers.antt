@@ -1,6 +1,6 @@
 use Rattle.std.proofs.Common.{ap, ◌∙◌}
 use Rattle.std.proofs.lemmas.Bool.{false≢true}
-use Rattle.group_charge.proofs.KeptLemmas.{number_below}
+use Rattle.group_tree.proofs.CallerLemmas.{number_below}
 use Rattle.group_tree.specs.Groups.{has_group}
 use Rattle.machine_texts.proofs.Owners.{no_group}
 use Rattle.machine_texts.proofs.stock.group_of.Goals as goal

@@ -1,5 +1,5 @@
 -- A tree that has no fault to find has room for one more group.
-use Rattle.std.proofs.Common.{◌≡◌, Option, None, Some, refl, true}
+use Rattle.std.proofs.Common.{◌≡◌, Option, None, Some, arith, refl, true}
 use Rattle.std.specs.Prelude.{is_none}
 use Rattle.std.proofs.lemmas.Bool.{false≢true}
 use Rattle.group_tree.specs.declared.fault.Fault.{Fault}
@@ -18,4 +18,4 @@ least_free-requires c =
     let s = state_in c.args.rows.now in
     let path = c.args.path.now in
     let can = can_make s.groups path (no_fault (make_fault s.groups path) (make_tests s c.args.seat path c.requires.legal).1) in
-    record { few = can.room }
+    record { few = omega (arith, can.room, c.groups-groups.ensures.legal.room) }

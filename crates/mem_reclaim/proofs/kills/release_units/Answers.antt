@@ -1,5 +1,6 @@
 use Rattle.std.proofs.Common.{◌<◌, ◌≤◌, length, ap, sym, ◌∙◌, arith, rules}
 use Rattle.std.proofs.lemmas.Option.{none-some}
+use Rattle.group_tree.specs.Bounds.{most_groups}
 use Rattle.boot_words.specs.Tables.{KnownTable}
 use Rattle.mem_machine.specs.{home_of, entries_in}
 use Rattle.mem_reclaim.proofs.LettingGo.{let_go_done, let_go_empty, let_go_first, let_go_more, oldest_is}
@@ -11,7 +12,7 @@ loop-unit-init g c = let_go_first g.N.BootName.table c.args.group c.args.list c.
 
 pub unreachable-requires-in_default-frame : goal.unreachable-requires-in_default-frame
 unreachable-requires-in_default-frame g c =
-    let fits : c.args.group < 64 = search rules in
+    let fits : c.args.group < most_groups = search rules in
     let o = oldest_is g.N.BootName.table c.args.group fits c.args.list c.loop-unit.machine c.prove_consistent.ensures
     c.in-Some.unit c.oldest.result c.oldest.ensures c.in-Some.is in
     let lt = o.inside in
@@ -21,7 +22,7 @@ unreachable-requires-in_default-frame g c =
 
 pub put_zone_reference-requires-clause-kept : goal.put_zone_reference-requires-clause-kept
 put_zone_reference-requires-clause-kept g c none =
-    let fits : c.args.group < 64 = search rules in
+    let fits : c.args.group < most_groups = search rules in
     let o = oldest_is g.N.BootName.table c.args.group fits c.args.list c.loop-unit.machine c.prove_consistent.ensures
     c.in-Some.unit c.oldest.result c.oldest.ensures c.in-Some.is in
     none-some _ (sym none ∙ ap (home_of c.loop-unit.machine.links) c.in-Some-frame.ensures.0 ∙ o.home)
@@ -33,7 +34,7 @@ put_zone_reference-requires-clause-held g c =
 
 pub loop-unit-preserved : goal.loop-unit-preserved
 loop-unit-preserved g c =
-    let fits : c.args.group < 64 = search rules in
+    let fits : c.args.group < most_groups = search rules in
     let o = oldest_is g.N.BootName.table c.args.group fits c.args.list c.loop-unit.machine c.prove_consistent.ensures
     c.in-Some.unit c.oldest.result c.oldest.ensures c.in-Some.is in
     let_go_more g.N.BootName.table c.args.group c.args.list c.args.machine.now c.loop-unit._unit c.loop-unit.machine c.loop-unit.invariant c.in-Some.unit o

@@ -4,7 +4,4 @@ use Rattle.mem_reclaim.proofs.Passing.{PassSoFar}
 use Rattle.mem_reclaim.proofs.passes.reclaim_pass.Given as goal
 
 abbrev pub invariant-loop-number : goal.invariant-loop-number
-invariant-loop-number g l = PassSoFar g.N.BootName.table (option_map (λ s. shares_by s.now) l.fn.shares) l.fn.pass l.fn.target l.fn.want l.fn.machine l.fn.groups l.rest l.freed l.machine
-
-abbrev pub decreases-loop-number : goal.decreases-loop-number
-decreases-loop-number g l = l.rest
+invariant-loop-number g l = PassSoFar g.N.BootName.table (option_map (λ s. shares_by s.now) l.fn.shares) l.fn.pass l.fn.target l.fn.want l.fn.machine l.number l.freed l.machine

@@ -1,6 +1,4 @@
-use Rattle.std.proofs.Common.{◌∙◌, List, false, true, sym, subst, arith}
-use Rattle.group_tree.specs.declared.group.Group.{Group}
-use Rattle.mem_machine.specs.Subtrees.{IsSubtree}
+use Rattle.std.proofs.Common.{◌∙◌, false, true, sym, arith}
 use Rattle.mem_reclaim.proofs.Giving.{as_all, shares_enough, shares_then}
 use Rattle.mem_reclaim.proofs.Grown.{held_after}
 use Rattle.mem_reclaim.proofs.Keeping.{keeps_both}
@@ -24,10 +22,6 @@ pub returns-then-want-shared-clause-missed : goal.returns-then-want-shared-claus
 returns-then-want-shared-clause-missed g c less = let enough = c.if-want-shared.true in absurd (omega (arith, less, enough))
 
 -- ---- the passes take the rest
-
-pub make_passes-requires-2-clause-subtree : goal.make_passes-requires-2-clause-subtree
-make_passes-requires-2-clause-subtree g c =
-    subst (λ (groups : List Group). IsSubtree groups c.args.group c.args.groups) (sym c.reclaim_shares-shared.ensures.keeps.groups) c.requires.subtree
 
 pub make_passes-requires-2-clause-held : goal.make_passes-requires-2-clause-held
 make_passes-requires-2-clause-held g c =

@@ -1,7 +1,5 @@
-use Rattle.std.proofs.Common.{◌≡◌, ◌+◌, ◌-◌, false, true, not, List, [], ◌∷◌, cond, refl, sym, ap, ◌∙◌, subst, arith}
-use Rattle.group_tree.specs.declared.group.Group.{Group}
+use Rattle.std.proofs.Common.{◌≡◌, ◌+◌, ◌-◌, false, true, not, [], ◌∷◌, cond, refl, sym, ap, ◌∙◌, arith}
 use Rattle.group_charge.specs.Charges.{Ledger, are_protecting}
-use Rattle.mem_machine.specs.Subtrees.{IsSubtree}
 use Rattle.mem_reclaim.specs.declared.passes.Pass.TheVariants.{First, Second, Third}
 use Rattle.mem_reclaim.specs.Passes.{ReclaimsPass, passes_of}
 use Rattle.mem_reclaim.proofs.Wanting.{both_done, both_enough, first_enough, three_done}
@@ -23,10 +21,6 @@ pub returns-then-want-first-clause-missed : goal.returns-then-want-first-clause-
 returns-then-want-first-clause-missed g c less = let enough = c.if-want-first.true in absurd (omega (arith, less, enough))
 
 -- ---- the second pass
-
-pub reclaim_pass-requires-clause-subtree : goal.reclaim_pass-requires-clause-subtree
-reclaim_pass-requires-clause-subtree g c =
-    subst (λ (groups : List Group). IsSubtree groups c.args.group c.args.groups) (sym c.reclaim_pass-first.ensures.keeps.groups) c.requires.subtree
 
 pub reclaim_pass-requires-clause-held : goal.reclaim_pass-requires-clause-held
 reclaim_pass-requires-clause-held g c =
@@ -71,10 +65,6 @@ returns-then-not-is_protecting-clause-keeps g c =
     keeps_both g.N.BootName.table c.args.machine.now c.reclaim_pass-first.new.machine c.reclaim_pass.new.machine c.reclaim_pass-first.ensures.keeps c.reclaim_pass.ensures.keeps
 
 -- ---- the third pass
-
-pub reclaim_pass-requires-2-clause-subtree : goal.reclaim_pass-requires-2-clause-subtree
-reclaim_pass-requires-2-clause-subtree g c =
-    subst (λ (groups : List Group). IsSubtree groups c.args.group c.args.groups) (sym (c.reclaim_pass.ensures.keeps.groups ∙ c.reclaim_pass-first.ensures.keeps.groups)) c.requires.subtree
 
 pub reclaim_pass-requires-2-clause-held : goal.reclaim_pass-requires-2-clause-held
 reclaim_pass-requires-2-clause-held g c =

@@ -20,6 +20,7 @@ returns-in-Ok-clause-served g c =
       visit = c.serve_outcome.ensures.served;
       stands = inl (stands, refl);
       settled = c.serve_outcome.ensures.settled;
+      groups = c.serve_outcome.ensures.groups;
     }
 
 pub returns-in-Err-clause-served : goal.returns-in-Err-clause-served
@@ -31,4 +32,5 @@ returns-in-Err-clause-served g c =
       visit = c.serve_outcome-done.ensures.served;
       stands = inr (none, refl);
       settled = c.serve_outcome-done.ensures.settled;
+      groups = tt;
     }

@@ -5,10 +5,10 @@ use Rattle.group_tree.specs.declared.group.Group.{Group}
 use Rattle.mem_machine.specs.Showing.{stock_left}
 use Rattle.mem_system.specs.declared.command.LockedCommand.TheVariants as by_number
 use Rattle.mem_system.specs.declared.text_command.TextCommand.TheVariants as cmd
-use Rattle.mem_system.specs.{KnownLocked, reply_of}
+use Rattle.mem_system.specs.{KnownLocked}
 use Rattle.script_lines.specs.declared.line.Command.TheVariants.{Alloc, Settle}
-use Rattle.script_replay.specs.declared.answer_value.AnswerValue.TheVariants.{Served}
-use Rattle.script_replay.proofs.UnderLock.{groups_locked, value_locked}
+use Rattle.reply_texts.specs.declared.line_answer.LineAnswer.TheVariants.{Served}
+use Rattle.script_replay.proofs.UnderLock.{groups_locked, served_locked}
 use Rattle.script_replay.proofs.locked_commands.alloc_under_lock.Goals as goal
 
 pub serve_outcome-outcome-requires : goal.serve_outcome-outcome-requires
@@ -24,23 +24,19 @@ returns g c =
     let before = c.args.locked.now in
     let after = c.end_command.new.locked in
     let groups = ap (λ (l : KnownLocked). l.machine.ledger.groups) c.begin_command.ensures.watched.locked in record {
-      served = λ path at. value_locked t c.args.is_explained (Alloc path c.args.order) before found served.new.locked after c.args.cpu.now served.new.cpu c.number-cpu_number.result
+      served = λ path at. served_locked t c.args.is_explained (Alloc path c.args.order) before found served.new.locked after c.args.cpu.now served.new.cpu c.number-cpu_number.result
           c.number-cpu_number.ensures.number c.number-cpu_number.ensures.in_run c.begin_command.ensures.zone c.begin_command.ensures.watched c.end_command.ensures
           (Served served.result) (record {
             asked = cmd.Alloc path c.args.order;
-            reply = reply_of served.new.locked.machine.ledger served.result;
+            outcome = served.result;
             is_answer = (refl, refl);
-            replies = record {
-              outcome = served.result;
-              serves = record {
-                served = by_number.Alloc c.args.group c.args.order;
-                given = served.result;
-                visit = served.ensures.served;
-                stands = inl ((ap (λ (gs : List Group). number_at gs path.now) groups ∙ at, refl), refl);
-                settled = served.ensures.settled;
-              };
+            serves = record {
+              served = by_number.Alloc c.args.group c.args.order;
+              given = served.result;
+              visit = served.ensures.served;
+              stands = inl ((ap (λ (gs : List Group). number_at gs path.now) groups ∙ at, refl), refl);
+              settled = served.ensures.settled;
               groups = served.ensures.groups;
-              reply_is = refl;
             };
           });
       groups = groups_locked t c.args.is_explained Settle before found served.new.locked after c.args.cpu.now served.new.cpu c.number-cpu_number.result

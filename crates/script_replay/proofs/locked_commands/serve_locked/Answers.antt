@@ -1,9 +1,7 @@
 use Rattle.std.proofs.Common.{◌≡◌, None, Some, inl, refl, rules}
 use Rattle.mem_system.specs.declared.command.LockedCommand.TheVariants as by_number
 use Rattle.mem_system.specs.declared.outcome.Outcome.TheVariants as outcome
-use Rattle.mem_system.specs.declared.command.ReplyWithText.TheVariants.{Done}
 use Rattle.mem_system.specs.declared.text_command.TextCommand.TheVariants.{Settle}
-use Rattle.mem_system.specs.Outcomes.{reply_of}
 use Rattle.script_replay.specs.Commands.{locked_command_of}
 use Rattle.script_replay.proofs.locked_commands.serve_locked.Goals as goal
 
@@ -13,9 +11,9 @@ returns-in-Some g c =
     let named : locked_command_of c.args.command.now ≡ Some c.in-Some.cmd = search rules in record {
       answers = record {
         asked = c.in-Some.cmd;
-        reply = reply_of served.new.locked.machine.ledger served.result;
+        outcome = served.result;
         is_answer = (named, refl);
-        replies = record { outcome = served.result; serves = served.ensures.served; groups = served.ensures.groups; reply_is = refl };
+        serves = served.ensures.served;
       };
       groups = served.ensures.groups;
       last = served.ensures.ends.last;
@@ -25,19 +23,15 @@ pub returns-in-None : goal.returns-in-None
 returns-in-None g c = let none : locked_command_of c.args.command.now ≡ None = search rules in record {
   answers = record {
     asked = Settle;
-    reply = Done;
+    outcome = outcome.Done;
     is_answer = (c.requires.settles none, refl);
-    replies = record {
-      outcome = outcome.Done;
-      serves = record {
-        served = by_number.Settle;
-        given = outcome.Done;
-        visit = c.serve_settle.ensures.served;
-        stands = inl (refl, refl);
-        settled = c.serve_settle.ensures.settled;
-      };
+    serves = record {
+      served = by_number.Settle;
+      given = outcome.Done;
+      visit = c.serve_settle.ensures.served;
+      stands = inl (refl, refl);
+      settled = c.serve_settle.ensures.settled;
       groups = tt;
-      reply_is = refl;
     };
   };
   groups = tt;

@@ -1,6 +1,6 @@
 use Rattle.std.proofs.Common.{sym, subst}
 use Rattle.mem_system.specs.{KnownLocked, locked_state}
-use Rattle.script_replay.specs.{AddsText, ServesCommand, terms, answer_of}
+use Rattle.script_replay.specs.{AddsText, ServesCommand, terms}
 use Rattle.script_replay.proofs.Serving.{value_settles}
 use Rattle.script_replay.proofs.replays.serve_at_cpu.Goals as goal
 
@@ -9,7 +9,7 @@ write_answer-written-requires g c = let served = c.serve_command-value in record
   in_range = c.requires.in_range;
   groups = served.ensures.groups;
   settles = λ is. value_settles (terms g.N.BootName.table c.args.is_explained) c.args.command.now
-      (locked_state c.args.locked.now c.args.cpu.now) (locked_state served.new.locked served.new.cpu) served.new.locked.machine.ledger served.result
+      (locked_state c.args.locked.now c.args.cpu.now) (locked_state served.new.locked served.new.cpu) served.result
       served.ensures.answer is;
   last = served.ensures.last;
 }
@@ -25,7 +25,7 @@ returns-clause-answered g c =
       so = record {
         steps = served.ensures.answer.steps;
         writes = record {
-          answer = answer_of served.new.locked.machine.ledger served.result;
+          answer = served.result;
           answered = served.ensures.answer.answered;
           told = said.ensures.told.so;
         };

@@ -1,7 +1,7 @@
 use Rattle.std.proofs.Common.{◌≡◌, ◌≢◌, ℕ, rules, subst, sym}
 use Rattle.mem_system.specs.{locked_state}
 use Rattle.script_lines.specs.declared.line.Command.TheVariants.{Alloc}
-use Rattle.script_replay.specs.{ServesAnswer, terms, answer_of}
+use Rattle.script_replay.specs.{ServesAnswer, terms}
 use Rattle.script_replay.proofs.Serving.{block_served}
 use Rattle.script_replay.proofs.server.serve_alloc_of.Goals as goal
 
@@ -10,7 +10,7 @@ returns-then-order-eq0-clause-answer g c path is =
     let single : c.args.order ≡ 0 = search rules in
     let served = c.serve_frame_of in
     subst (λ (k : ℕ). ServesAnswer (terms g.N.BootName.table c.args.is_explained) (Alloc path k) (locked_state c.args.locked.now c.args.cpu.now)
-    (locked_state served.new.locked served.new.cpu) (answer_of served.new.locked.machine.ledger served.result)) (sym single) (served.ensures.answer path is)
+    (locked_state served.new.locked served.new.cpu) served.result) (sym single) (served.ensures.answer path is)
 
 pub returns-else-order-eq0-clause-answer : goal.returns-else-order-eq0-clause-answer
 returns-else-order-eq0-clause-answer g c path is =

@@ -1,7 +1,7 @@
 use Rattle.std.proofs.Common.{◌≡◌, Some, rules, subst, sym}
 use Rattle.mem_system.specs.Visits.{locked_state}
 use Rattle.script_lines.specs.declared.line.Command.{Command}
-use Rattle.script_replay.specs.{ServesAnswer, frame_path, terms, answer_of}
+use Rattle.script_replay.specs.{ServesAnswer, frame_path, terms}
 use Rattle.script_replay.proofs.Serving.{frame_is}
 use Rattle.script_replay.proofs.server.serve_command.Goals as goal
 
@@ -11,5 +11,4 @@ returns-in-Some-clause-answer g c =
     let served = c.serve_frame in
     let found : frame_path c.args.command.now ≡ Some path = search rules in
     subst (λ (x : Command). ServesAnswer (terms g.N.BootName.table c.args.is_explained) x
-    (locked_state c.args.locked.now c.args.cpu.now) (locked_state served.new.locked served.new.cpu)
-    (answer_of served.new.locked.machine.ledger served.result)) (sym (frame_is c.args.command.now path found)) served.ensures.answer
+    (locked_state c.args.locked.now c.args.cpu.now) (locked_state served.new.locked served.new.cpu) served.result) (sym (frame_is c.args.command.now path found)) served.ensures.answer

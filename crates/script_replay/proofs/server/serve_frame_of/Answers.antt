@@ -4,7 +4,7 @@ use Rattle.group_tree.specs.Groups.{number_at}
 use Rattle.mem_system.specs.{KnownLocked, locked_state}
 use Rattle.reply_texts.specs.declared.steps.UnlockedAnswer.TheVariants as unlocked
 use Rattle.script_lines.specs.declared.line.Command.TheVariants.{Alloc, Fast}
-use Rattle.script_replay.specs.{OnlyWatched, steps_unlocked, terms, answer_of}
+use Rattle.script_replay.specs.{OnlyWatched, steps_unlocked, terms}
 use Rattle.script_replay.proofs.Gaining.{watched_gains}
 use Rattle.script_replay.proofs.Serving.{lock_served, none_got, then_watched}
 use Rattle.script_replay.proofs.server.serve_frame_of.Goals as goal
@@ -40,7 +40,7 @@ returns-in_default-clause-answer g c path is =
     let tried = c.alloc_in_order in
     let served = c.alloc_under_lock in
     lock_served (terms g.N.BootName.table c.args.is_explained) (Alloc path 0) l served.new.locked c.args.cpu.now served.new.cpu
-    (locked_state tried.new.locked tried.new.cpu) (answer_of served.new.locked.machine.ledger served.result) (record {
+    (locked_state tried.new.locked tried.new.cpu) served.result (record {
       group = c.args.group;
       found = is;
       fast = tried.result;

@@ -1,6 +1,6 @@
 use Rattle.std.proofs.Common.{[], rules}
 use Rattle.mem_system.specs.Visits.{locked_state}
-use Rattle.script_replay.specs.{AnswersUnlocked, Gains, NeedsLock, steps_unlocked, terms, answer_of}
+use Rattle.script_replay.specs.{AnswersUnlocked, Gains, NeedsLock, steps_unlocked, terms}
 use Rattle.script_replay.proofs.Serving.{lock_served, only_settles, unlocked_served, untried, vain_is}
 use Rattle.script_replay.proofs.server.serve_other.Goals as goal
 
@@ -32,6 +32,6 @@ returns-clause-answer g c =
     let needs : NeedsLock command before tried.new.cpu = search rules in
     let gains : Gains [] (locked_state c.args.locked.now before) seen = search rules in
     lock_served (terms g.N.BootName.table c.args.is_explained) command c.args.locked.now served.new.locked before served.new.cpu
-    seen (answer_of served.new.locked.machine.ledger served.result)
+    seen served.result
     (vain_is command c.args.locked.now before tried.new.cpu c.requires.other needs) tried.ensures.only_saw gains
     (λ settles. tried.ensures.stays (untried command settles)) served.ensures.served

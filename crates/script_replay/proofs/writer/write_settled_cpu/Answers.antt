@@ -1,8 +1,7 @@
 use Rattle.std.proofs.Common.{refl, rules}
 use Rattle.machine_texts.specs.{blocks_text, show_text, stock_line_text}
 use Rattle.mem_system.specs.Visits.{locked_state}
-use Rattle.reply_texts.specs.Answers.{answer_text}
-use Rattle.reply_texts.specs.LineAnswer as answer
+use Rattle.reply_texts.specs.Answers.{settled_text}
 use Rattle.script_lines.specs.declared.line.Command.TheVariants.{Blocks, Settle, Show, Stock}
 use Rattle.script_replay.proofs.Serving.{is_settle, settled_written}
 use Rattle.script_replay.proofs.writer.write_settled_cpu.Goals as goal
@@ -27,6 +26,6 @@ returns-in-Stock-clause-told g c =
 pub returns-in_default-clause-told : goal.returns-in_default-clause-told
 returns-in_default-clause-told g c =
     settled_written g.N.BootName.table c.args.is_explained c.args.command.now Settle (locked_state c.args.locked.now c.args.cpu.now) c.write_settled.result
-    c.args.text.now c.write_settled.new.text (answer_text answer.Settled)
+    c.args.text.now c.write_settled.new.text settled_text
     (is_settle c.args.command.now c.requires.settles c.in_default.not-Blocks c.in_default.not-Show c.in_default.not-Stock c.in_default.not-Units) refl
     c.write_settled.ensures

@@ -8,4 +8,4 @@ pub store-requires-clause-may : goal.store-requires-clause-may
 store-requires-clause-may c = collects_held c.args.self.now c.args.held.now c.args.cpu c.args.frame c.requires.held c.requires.holder c.requires.legal
 
 pub returns : goal.returns
-returns c = collected_made c.args.self.now c.args.held.now c.args.cpu c.args.frame 0 c.store.new.seat c.requires.held c.requires.holder c.store.ensures.table c.store.ensures.told
+returns c = collected_made c.args.self.now c.args.held.now c.args.cpu c.args.frame 0 c.store.new.seat c.requires.held c.requires.holder c.store.ensures.table c.store.ensures.post

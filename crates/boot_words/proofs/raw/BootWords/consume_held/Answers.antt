@@ -8,4 +8,4 @@ pub take_page_of-requires-clause-may : goal.take_page_of-requires-clause-may
 take_page_of-requires-clause-may c = takes_held c.args.self.now c.args.held.now c.args.cpu c.args.group c.requires.held c.requires.holder c.requires.pays c.requires.legal
 
 pub returns : goal.returns
-returns c = took_made c.args.self.now c.args.held.now c.args.cpu c.args.group c.take_page_of.result c.take_page_of.new.held c.requires.held c.requires.holder c.take_page_of.ensures.table c.take_page_of.ensures.told
+returns c = took_made c.args.self.now c.args.held.now c.args.cpu c.args.group c.take_page_of.result c.take_page_of.new.held c.requires.held c.requires.holder c.take_page_of.ensures.table c.take_page_of.ensures.post

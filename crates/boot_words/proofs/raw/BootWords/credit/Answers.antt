@@ -23,15 +23,15 @@ returns-then-found-word c =
     let n = c.in-HeldBy.pages in
     let view = c.cpu.view_is in
     let later = c.exchange_stock-found.new.seat in
-    let told : TellsPage (zone_of_boot t) (own_past c.args.cpu.now.past) (Credit c.args.frame) Stocked (HeldBy g n) (HeldBy g (n + 1)) (DrainedOf g) c.exchange_stock-found.result later.pasts =
+    let post : TellsPage (zone_of_boot t) (own_past c.args.cpu.now.past) (Credit c.args.frame) Stocked (HeldBy g n) (HeldBy g (n + 1)) (DrainedOf g) c.exchange_stock-found.result later.pasts =
     subst (λ (s : KnownPasts). TellsPage (zone_of_boot t) (own_past s) (Credit c.args.frame) Stocked (HeldBy g n) (HeldBy g (n + 1)) (DrainedOf g) c.exchange_stock-found.result later.pasts)
-    (ap (λ k. k.past) view) c.exchange_stock-found.ensures.told in (
+    (ap (λ k. k.past) view) c.exchange_stock-found.ensures.post in (
       g,
       n,
       sym (ap (λ k. k.last) view) ∙ c.in-HeldBy.is,
       exchanged_page t c.args.cpu.now (Credit c.args.frame) Stocked (HeldBy g (n + 1)) (record { past = later; number = c.cpu.inside.number; last = HeldBy g (n + 1) }) c.requires.cpu
           (ap (λ k. k.number) view) refl (c.exchange_stock-found.ensures.table ∙ ap (λ k. k.past.table) view)
-          (told.took (c.if-found-word.true ∙ c.word.ensures ∙ ap word_of c.in-HeldBy.is)),
+          (post.took (c.if-found-word.true ∙ c.word.ensures ∙ ap word_of c.in-HeldBy.is)),
     )
 
 pub unreachable-requires : goal.unreachable-requires

@@ -6,4 +6,4 @@ use Rattle.boot_words.proofs.Prepaying.{TellsPage}
 use Rattle.boot_words.proofs.raw.BootWords.credit.Given as goal
 
 abbrev pub ghosts-exchange_stock : goal.ghosts-exchange_stock
-ghosts-exchange_stock a = record { told = TellsPage (zone_of_boot a.self.now) (own_past a.seat.now) (Credit a._frame) Stocked (HeldBy a.group a.before) (HeldBy a.group a.after) (DrainedOf a.group) }
+ghosts-exchange_stock a = record { post = TellsPage (zone_of_boot a.self.now) (own_past a.seat.now) (Credit a._frame) Stocked (HeldBy a.group a.before) (HeldBy a.group a.after) (DrainedOf a.group) }

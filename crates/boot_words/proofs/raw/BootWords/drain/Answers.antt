@@ -19,22 +19,22 @@ pub drain_of-requires-clause-may : goal.drain_of-requires-clause-may
 drain_of-requires-clause-may c =
     let t = c.args.self.now in
     let g = c.in-Some.group in
-    let on = looked_on t c.args.held.now c.args.cpu c.load-looked.result c.load-looked.new.seat c.of_word.result g c.requires.held c.load-looked.ensures.table c.load-looked.ensures.told
+    let on = looked_on t c.args.held.now c.args.cpu c.load-looked.result c.load-looked.new.seat c.of_word.result g c.requires.held c.load-looked.ensures.table c.load-looked.ensures.post
     c.of_word.ensures (sym c.group.ensures ∙ c.in-Some.is) in
     subst (λ (s : KnownPasts). MayChange (zone_of_boot t) s.pasts (StockOf c.args.cpu) (λ n. word_of (DrainedOf g)) (Drains (zone_of_boot t) (own_past s) (cpu_past s) c.args.cpu)) (sym on.0)
     (drains t c.args.held.now c.args.cpu g c.requires.held c.requires.legal on.1 on.2)
 
 pub returns-in-None : goal.returns-in-None
 returns-in-None c =
-    drained_none c.args.self.now c.args.held.now c.args.cpu c.load-looked.result c.load-looked.new.seat c.of_word.result c.requires.held c.load-looked.ensures.table c.load-looked.ensures.told
+    drained_none c.args.self.now c.args.held.now c.args.cpu c.load-looked.result c.load-looked.new.seat c.of_word.result c.requires.held c.load-looked.ensures.table c.load-looked.ensures.post
     c.of_word.ensures (sym c.group.ensures ∙ c.in-None.is)
 
 pub returns-in-Some : goal.returns-in-Some
 returns-in-Some c =
     let t = c.args.self.now in
-    let on = looked_on t c.args.held.now c.args.cpu c.load-looked.result c.load-looked.new.seat c.of_word.result c.in-Some.group c.requires.held c.load-looked.ensures.table c.load-looked.ensures.told
+    let on = looked_on t c.args.held.now c.args.cpu c.load-looked.result c.load-looked.new.seat c.of_word.result c.in-Some.group c.requires.held c.load-looked.ensures.table c.load-looked.ensures.post
     c.of_word.ensures (sym c.group.ensures ∙ c.in-Some.is) in
-    let told : Drains (zone_of_boot t) (own_past c.args.held.now) (cpu_past c.args.held.now) c.args.cpu c.drain_of.result c.drain_of.new.held.pasts =
-    subst (λ (s : KnownPasts). Drains (zone_of_boot t) (own_past s) (cpu_past s) c.args.cpu c.drain_of.result c.drain_of.new.held.pasts) on.0 c.drain_of.ensures.told in
+    let post : Drains (zone_of_boot t) (own_past c.args.held.now) (cpu_past c.args.held.now) c.args.cpu c.drain_of.result c.drain_of.new.held.pasts =
+    subst (λ (s : KnownPasts). Drains (zone_of_boot t) (own_past s) (cpu_past s) c.args.cpu c.drain_of.result c.drain_of.new.held.pasts) on.0 c.drain_of.ensures.post in
     drained_some t c.args.held.now c.args.cpu c.drain_of.result c.drain_of.new.held c.of_word-in-Some.result c.pages.result c.requires.held
-    (c.drain_of.ensures.table ∙ c.load-looked.ensures.table) told c.of_word-in-Some.ensures c.pages.ensures
+    (c.drain_of.ensures.table ∙ c.load-looked.ensures.table) post c.of_word-in-Some.ensures c.pages.ensures

@@ -8,4 +8,4 @@ pub fill_with-requires-clause-may : goal.fill_with-requires-clause-may
 fill_with-requires-clause-may c = fills c.args.self.now c.args.held.now c.args.cpu c.args.group c.args.pages c.requires.held c.requires.cpu c.requires.fits c.requires.nothing c.requires.legal
 
 pub returns : goal.returns
-returns c = held_made c.args.self.now c.args.held.now (record { seat = 0; action = Fill c.args.cpu c.args.group c.args.pages }) Done c.fill_with.new.seat c.requires.held c.fill_with.ensures.table c.fill_with.ensures.told
+returns c = held_made c.args.self.now c.args.held.now (record { seat = 0; action = Fill c.args.cpu c.args.group c.args.pages }) Done c.fill_with.new.seat c.requires.held c.fill_with.ensures.table c.fill_with.ensures.post

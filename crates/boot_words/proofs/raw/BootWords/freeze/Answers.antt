@@ -8,4 +8,4 @@ pub exchange-requires-clause-may : goal.exchange-requires-clause-may
 exchange-requires-clause-may c = freezes c.args.self.now c.args.held.now c.args.frame c.args.count c.requires.held c.requires.legal
 
 pub returns : goal.returns
-returns c = froze c.args.self.now c.args.held.now c.args.frame c.args.count c.exchange.result c.exchange.new.seat c.requires.held c.exchange.ensures.table c.exchange.ensures.told
+returns c = froze c.args.self.now c.args.held.now c.args.frame c.args.count c.exchange.result c.exchange.new.seat c.requires.held c.exchange.ensures.table c.exchange.ensures.post

@@ -1,6 +1,6 @@
 use Rattle.boot_words.specs.{zone_of_boot, frame_of_word, cpu_past, own_past}
-use Rattle.boot_words.proofs.Zoning.{freezes_told}
+use Rattle.boot_words.proofs.Zoning.{freezes_post}
 use Rattle.boot_words.proofs.raw.BootWords.freeze.Given as goal
 
 abbrev pub ghosts-exchange : goal.ghosts-exchange
-ghosts-exchange a = record { told = freezes_told (zone_of_boot a.self.now) (own_past a.seat.now) (cpu_past a.seat.now) (frame_of_word a.word) a.old }
+ghosts-exchange a = record { post = freezes_post (zone_of_boot a.self.now) (own_past a.seat.now) (cpu_past a.seat.now) (frame_of_word a.word) a.old }

@@ -3,4 +3,4 @@ use Rattle.boot_words.proofs.InTurn.{MadeInTurn}
 use Rattle.boot_words.proofs.raw.BootWords.lend.Given as goal
 
 abbrev pub ghosts-load_for : goal.ghosts-load_for
-ghosts-load_for a = record { told = λ found. MadeInTurn (zone_of_boot a.self.now) (own_past a.held.now) (cpu_past a.held.now) (lend_run a._cpu a._frame) }
+ghosts-load_for a = record { post = λ found. MadeInTurn (zone_of_boot a.self.now) (own_past a.held.now) (cpu_past a.held.now) (lend_run a._cpu a._frame) }

@@ -14,4 +14,4 @@ pub returns-clause-last : goal.returns-clause-last
 returns-clause-last c =
     let seat = ap (λ k. k.past) c.cpu.view_is in
     lock_last c.args.self.now c.args.zone.now c.args.cpu.now c.join.new.seat c.load.new.seat c.load.result c.requires.zone c.requires.cpu
-    (ap (λ s. s.pasts) c.join.ensures.seat ∙ ap (λ (s : KnownPasts). c.args.zone.now.pasts ++ s.pasts) seat) (c.load.ensures.table ∙ ap (λ s. s.table) c.join.ensures.seat) c.load.ensures.told
+    (ap (λ s. s.pasts) c.join.ensures.seat ∙ ap (λ (s : KnownPasts). c.args.zone.now.pasts ++ s.pasts) seat) (c.load.ensures.table ∙ ap (λ s. s.table) c.join.ensures.seat) c.load.ensures.post

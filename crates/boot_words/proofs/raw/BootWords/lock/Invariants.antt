@@ -3,4 +3,4 @@ use Rattle.boot_words.proofs.Locking.{Takes}
 use Rattle.boot_words.proofs.raw.BootWords.lock.Given as goal
 
 abbrev pub ghosts-load : goal.ghosts-load
-ghosts-load a = record { told = Takes (zone_of_boot a.self.now) (own_past a.seat.now) (cpu_past a.seat.now) }
+ghosts-load a = record { post = Takes (zone_of_boot a.self.now) (own_past a.seat.now) (cpu_past a.seat.now) }

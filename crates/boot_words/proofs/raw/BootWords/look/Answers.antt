@@ -12,13 +12,13 @@ pub load-found-requires-clause-may : goal.load-found-requires-clause-may
 load-found-requires-clause-may c = sees_stock c.args.self.now c.args.held.now c.args.cpu c.requires.held c.requires.holder
 
 pub returns-clause-stock : goal.returns-clause-stock
-returns-clause-stock c = stock_is c.args.self.now c.args.held.now c.args.cpu c.load-found.result c.load-found.new.seat.pasts c.of_word.result c.requires.holder c.load-found.ensures.told c.of_word.ensures
+returns-clause-stock c = stock_is c.args.self.now c.args.held.now c.args.cpu c.load-found.result c.load-found.new.seat.pasts c.of_word.result c.requires.holder c.load-found.ensures.post c.of_word.ensures
 
 pub returns-clause-has_word : goal.returns-clause-has_word
-returns-clause-has_word c = subst HasWord (sym (c.of_word.ensures _ c.load-found.ensures.told.fits c.load-found.ensures.told.word)) c.load-found.ensures.told.fits
+returns-clause-has_word c = subst HasWord (sym (c.of_word.ensures _ c.load-found.ensures.post.fits c.load-found.ensures.post.word)) c.load-found.ensures.post.fits
 
 pub returns-clause-bounded : goal.returns-clause-bounded
-returns-clause-bounded c = subst (λ q. ((local_by_pasts c.args.self.now c.args.held.now).parts q).book < group_base) (sym c.requires.holder) c.load-found.ensures.told.few
+returns-clause-bounded c = subst (λ q. ((local_by_pasts c.args.self.now c.args.held.now).parts q).book < group_base) (sym c.requires.holder) c.load-found.ensures.post.few
 
 pub returns-clause-same : goal.returns-clause-same
-returns-clause-same c = same_seat c.args.self.now c.args.held.now c.load-found.new.seat c.requires.held c.load-found.ensures.table c.load-found.ensures.told.later_is
+returns-clause-same c = same_seat c.args.self.now c.args.held.now c.load-found.new.seat c.requires.held c.load-found.ensures.table c.load-found.ensures.post.later_is

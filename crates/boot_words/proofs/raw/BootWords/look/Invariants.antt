@@ -3,4 +3,4 @@ use Rattle.boot_words.proofs.Looking.{SeesStock}
 use Rattle.boot_words.proofs.raw.BootWords.look.Given as goal
 
 abbrev pub ghosts-load : goal.ghosts-load
-ghosts-load a = record { told = SeesStock (zone_of_boot a.self.now) (own_past a.seat.now) (cpu_past a.seat.now) }
+ghosts-load a = record { post = SeesStock (zone_of_boot a.self.now) (own_past a.seat.now) (cpu_past a.seat.now) }

@@ -8,5 +8,5 @@ plain_as-requires-clause-may c =
 
 pub returns : goal.returns
 returns c = record {
-  run = held_made c.args.self.now c.args.held.now (record { seat = c.args.seat; action = c.args.action.now }) c.args.answer.now c.plain_as.new.held c.requires.held c.plain_as.ensures.table c.plain_as.ensures.told;
+  run = held_made c.args.self.now c.args.held.now (record { seat = c.args.seat; action = c.args.action.now }) c.args.answer.now c.plain_as.new.held c.requires.held c.plain_as.ensures.table c.plain_as.ensures.post;
 }

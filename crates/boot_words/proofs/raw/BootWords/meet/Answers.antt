@@ -14,4 +14,4 @@ returns-clause-cpu c =
     let t = c.args.self.now in
     let is : IsAwayCpu t (record { past = c.cpu.inside.past; number = c.cpu.inside.number; last = c.cpu.inside.last }) = subst (IsAwayCpu t) (sym c.cpu.view_is) c.requires.cpu in
     meet_knows t c.args.zone.now (record { past = c.cpu.inside.past; number = c.cpu.inside.number; last = c.cpu.inside.last }) c.join.new.seat c.split_others.result c.load.new.seat.pasts c.load.result
-    c.requires.zone is (ap (λ s. s.pasts) c.join.ensures.seat) c.load.ensures.told c.split_others.ensures.others
+    c.requires.zone is (ap (λ s. s.pasts) c.join.ensures.seat) c.load.ensures.post c.split_others.ensures.others

@@ -3,4 +3,4 @@ use Rattle.boot_words.proofs.SeenSame.{SeeSame}
 use Rattle.boot_words.proofs.raw.BootWords.meet.Given as goal
 
 abbrev pub ghosts-load : goal.ghosts-load
-ghosts-load a = record { told = SeeSame (zone_of_boot a.self.now) (own_past a.seat.now) (cpu_past a.seat.now) }
+ghosts-load a = record { post = SeeSame (zone_of_boot a.self.now) (own_past a.seat.now) (cpu_past a.seat.now) }

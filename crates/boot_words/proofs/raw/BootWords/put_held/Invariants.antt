@@ -3,4 +3,4 @@ use Rattle.boot_words.proofs.Drains.{PutsHeld}
 use Rattle.boot_words.proofs.raw.BootWords.put_held.Given as goal
 
 abbrev pub ghosts-take_one_by : goal.ghosts-take_one_by
-ghosts-take_one_by a = record { told = PutsHeld (zone_of_boot a.self.now) (own_past a.held.now) (cpu_past a.held.now) a._seat a.frame }
+ghosts-take_one_by a = record { post = PutsHeld (zone_of_boot a.self.now) (own_past a.held.now) (cpu_past a.held.now) a._seat a.frame }

@@ -14,16 +14,16 @@ pub take_one-found-requires-clause-may : goal.take_one-found-requires-clause-may
 take_one-found-requires-clause-may c = puts c.args.self.now c.args.seat.now c.args.frame c.requires.past c.requires.legal
 
 pub overflow_sub-result : goal.overflow_sub-result
-overflow_sub-result c = c.take_one-found.ensures.told.some
+overflow_sub-result c = c.take_one-found.ensures.post.some
 
 pub returns-then-found-eq1 : goal.returns-then-found-eq1
 returns-then-found-eq1 c =
-    let told = c.take_one-found.ensures.told in
+    let post = c.take_one-found.ensures.post in
     made c.args.self.now c.args.seat.now (Put c.args.frame) Last c.take_one-found.new.seat c.requires.past c.take_one-found.ensures.table
-    (subst (λ a. Made (zone_of_boot c.args.self.now) (own_past c.args.seat.now) (Put c.args.frame) a c.take_one-found.new.seat.pasts) (says_last c.take_one-found.result c.if-found-eq1.true) told.made)
+    (subst (λ a. Made (zone_of_boot c.args.self.now) (own_past c.args.seat.now) (Put c.args.frame) a c.take_one-found.new.seat.pasts) (says_last c.take_one-found.result c.if-found-eq1.true) post.made)
 
 pub returns-else-found-eq1 : goal.returns-else-found-eq1
 returns-else-found-eq1 c =
-    let told = c.take_one-found.ensures.told in
+    let post = c.take_one-found.ensures.post in
     made c.args.self.now c.args.seat.now (Put c.args.frame) (Left (c.take_one-found.result - 1)) c.take_one-found.new.seat c.requires.past c.take_one-found.ensures.table
-    (subst (λ a. Made (zone_of_boot c.args.self.now) (own_past c.args.seat.now) (Put c.args.frame) a c.take_one-found.new.seat.pasts) (says_left c.take_one-found.result c.if-found-eq1.false) told.made)
+    (subst (λ a. Made (zone_of_boot c.args.self.now) (own_past c.args.seat.now) (Put c.args.frame) a c.take_one-found.new.seat.pasts) (says_left c.take_one-found.result c.if-found-eq1.false) post.made)

@@ -11,4 +11,4 @@ pub store-requires-clause-may : goal.store-requires-clause-may
 store-requires-clause-may c = shuts c.args.self.now c.args.held.now c.args.cpu c.requires.held c.requires.legal
 
 pub returns : goal.returns
-returns c = held_made c.args.self.now c.args.held.now (record { seat = 0; action = ShutVisit c.args.cpu }) Done c.store.new.seat c.requires.held c.store.ensures.table c.store.ensures.told
+returns c = held_made c.args.self.now c.args.held.now (record { seat = 0; action = ShutVisit c.args.cpu }) Done c.store.new.seat c.requires.held c.store.ensures.table c.store.ensures.post

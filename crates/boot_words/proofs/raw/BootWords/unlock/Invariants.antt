@@ -3,4 +3,4 @@ use Rattle.boot_words.proofs.Locking.{Releases}
 use Rattle.boot_words.proofs.raw.BootWords.unlock.Given as goal
 
 abbrev pub ghosts-load : goal.ghosts-load
-ghosts-load a = record { told = Releases (zone_of_boot a.self.now) (own_past a.seat.now) (cpu_past a.seat.now) }
+ghosts-load a = record { post = Releases (zone_of_boot a.self.now) (own_past a.seat.now) (cpu_past a.seat.now) }

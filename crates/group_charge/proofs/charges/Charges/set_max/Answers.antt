@@ -1,5 +1,6 @@
 use Rattle.std.proofs.Common.{sym, ap, ◌∙◌, subst}
 use Rattle.group_tree.specs.Groups.{has_group}
+use Rattle.group_tree.proofs.GroupLemmas.{room_of-limited}
 use Rattle.group_tree.proofs.CallerLemmas.{has_group-limited}
 use Rattle.group_charge.specs.{Ledger, SamePages, with_group_limit, ledger_of}
 use Rattle.group_charge.proofs.ChargeLemmas.{AreCharges-limited, same_ledger}
@@ -10,17 +11,18 @@ use Rattle.group_charge.proofs.charges.Charges.set_max.Goals as goal
 
 pub returns-clause-limited : goal.returns-clause-limited
 returns-clause-limited c =
-    ap (λ rows. ledger_of rows c.self.inside.accounts c.self.inside.settings) c.set_max.ensures
-    ∙ same_ledger _ _ _ _ (kept_limited c.self.inside.tree c.self.inside.accounts c.args.group c.args.limit)
+    ap (λ rows. ledger_of rows c.self.inside.accounts.items c.self.inside.settings) c.set_max.ensures
+    ∙ same_ledger _ _ _ _ (kept_limited c.self.inside.tree c.self.inside.accounts.items c.args.group c.args.limit)
     ∙ ap (λ l. with_group_limit l c.args.group c.args.limit) c.self.view_is
 
 pub invariant_of-self : goal.invariant_of-self
 invariant_of-self c =
-    let l = ledger_of c.self.inside.tree c.self.inside.accounts c.self.inside.settings in
+    let l = ledger_of c.self.inside.tree c.self.inside.accounts.items c.self.inside.settings in
     kept_as _ _ _ _ (with_group_limit l c.args.group c.args.limit) (returns-clause-limited c
     ∙ ap (λ k. with_group_limit k c.args.group c.args.limit) (sym c.self.view_is))
-    (AreCharges-limited l c.args.group c.args.limit c.self.invariant.charges) c.self.invariant.size
-    (stored_limited l c.self.inside.usages c.args.group c.args.limit c.self.invariant.usages_are)
+    (AreCharges-limited l c.args.group c.args.limit c.self.invariant.charges)
+    (c.self.invariant.size ∙ sym (room_of-limited l.groups c.args.group c.args.limit))
+    (stored_limited l c.self.inside.usages.items c.args.group c.args.limit c.self.invariant.usages_are)
 
 pub returns-clause-pages : goal.returns-clause-pages
 returns-clause-pages c = subst (SamePages c.args.self.now) (sym (returns-clause-limited c)) (limit_pages c.args.self.now c.args.group c.args.limit)

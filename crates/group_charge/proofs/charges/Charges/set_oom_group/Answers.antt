@@ -1,5 +1,6 @@
 use Rattle.std.proofs.Common.{sym, ap, ◌∙◌, subst}
 use Rattle.group_tree.specs.Groups.{has_group}
+use Rattle.group_tree.proofs.GroupLemmas.{room_of-flagged}
 use Rattle.group_tree.proofs.CallerLemmas.{has_group-flagged}
 use Rattle.group_charge.specs.{Ledger, SamePages, with_oom_flag, ledger_of}
 use Rattle.group_charge.proofs.ChargeLemmas.{AreCharges-flagged, same_ledger}
@@ -10,17 +11,18 @@ use Rattle.group_charge.proofs.charges.Charges.set_oom_group.Goals as goal
 
 pub returns-clause-flagged : goal.returns-clause-flagged
 returns-clause-flagged c =
-    ap (λ rows. ledger_of rows c.self.inside.accounts c.self.inside.settings) c.set_oom_group.ensures
-    ∙ same_ledger _ _ _ _ (kept_flagged c.self.inside.tree c.self.inside.accounts c.args.group c.args.oom_group)
+    ap (λ rows. ledger_of rows c.self.inside.accounts.items c.self.inside.settings) c.set_oom_group.ensures
+    ∙ same_ledger _ _ _ _ (kept_flagged c.self.inside.tree c.self.inside.accounts.items c.args.group c.args.oom_group)
     ∙ ap (λ l. with_oom_flag l c.args.group c.args.oom_group) c.self.view_is
 
 pub invariant_of-self : goal.invariant_of-self
 invariant_of-self c =
-    let l = ledger_of c.self.inside.tree c.self.inside.accounts c.self.inside.settings in
+    let l = ledger_of c.self.inside.tree c.self.inside.accounts.items c.self.inside.settings in
     kept_as _ _ _ _ (with_oom_flag l c.args.group c.args.oom_group) (returns-clause-flagged c
     ∙ ap (λ k. with_oom_flag k c.args.group c.args.oom_group) (sym c.self.view_is))
-    (AreCharges-flagged l c.args.group c.args.oom_group c.self.invariant.charges c.requires.below_root) c.self.invariant.size
-    (stored_flagged l c.self.inside.usages c.args.group c.args.oom_group c.self.invariant.usages_are)
+    (AreCharges-flagged l c.args.group c.args.oom_group c.self.invariant.charges c.requires.below_root)
+    (c.self.invariant.size ∙ sym (room_of-flagged l.groups c.args.group c.args.oom_group))
+    (stored_flagged l c.self.inside.usages.items c.args.group c.args.oom_group c.self.invariant.usages_are)
 
 pub returns-clause-pages : goal.returns-clause-pages
 returns-clause-pages c = subst (SamePages c.args.self.now) (sym (returns-clause-flagged c)) (flag_pages c.args.self.now c.args.group c.args.oom_group)

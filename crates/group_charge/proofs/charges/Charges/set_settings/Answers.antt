@@ -4,7 +4,7 @@ use Rattle.group_charge.proofs.charges.Charges.set_settings.Goals as goal
 
 pub returns : goal.returns
 returns c =
-    ap (ledger_of c.self.inside.tree c.self.inside.accounts) c.set.ensures
+    ap (ledger_of c.self.inside.tree c.self.inside.accounts.items) c.set.ensures
     ∙ ap (λ l. with_settings l c.args.group c.args.settings) c.self.view_is
 
 pub invariant_of-self : goal.invariant_of-self

@@ -2,7 +2,6 @@ use Rattle.std.proofs.Common.{◌≡◌, ℕ, zero, suc, ◌||◌, Bool, true, f
 use Rattle.std.proofs.lemmas.Iterator.{YieldsList-from_slice}
 use Rattle.std.proofs.lemmas.Iterator.Search.{any_from_yields_List}
 use Rattle.std.proofs.lemmas.Bool.{true≢false}
-use Rattle.std.proofs.lemmas.List.{length-set}
 use Rattle.group_charge.specs.Charges.{ReclaimSettings, are_protecting, is_protecting}
 use Rattle.group_charge.proofs.settings.SettingsTable.set.Goals as goal
 
@@ -23,16 +22,13 @@ set_none (s ∷ settings) (suc at) one none off = by_case (is_protecting s) none
     by_case true is rest = absurd (true≢false is)
 
 pub invariant_of-self : goal.invariant_of-self
-invariant_of-self c = (
-  length-set c.self.inside.settings c.number.result c.args.settings ∙ c.self.invariant.0,
-  c.if-self.false ∙ sym (set_none c.self.inside.settings c.number.result c.args.settings (sym c.self.invariant.1 ∙ c.if-self.false)
-      (sym c.is_protecting.ensures ∙ c.if-is_protecting.false)),
-)
+invariant_of-self c =
+    let settings = c.self.inside.settings.items in
+    c.if-self.false ∙ sym (set_none settings c.number-number.result c.args.settings (sym c.self.invariant ∙ c.if-self.false)
+    (sym c.is_protecting.ensures ∙ c.if-is_protecting.false))
 
 pub invariant_of-self-then-self : goal.invariant_of-self-then-self
-invariant_of-self-then-self c = (
-  length-set c.self.inside.settings c.number.result c.args.settings ∙ c.self.invariant.0,
-  any_from_yields_List is_protecting _ _ _ c.any-self-inside.ensures.ran
-      (YieldsList-from_slice (set c.self.inside.settings c.number.result c.args.settings) cc)
-      (λ x b q k. search (rules, tests)),
-)
+invariant_of-self-then-self c =
+    any_from_yields_List is_protecting _ _ _ c.any-self-inside.ensures.ran
+    (YieldsList-from_slice (set c.self.inside.settings.items c.number-number.result c.args.settings) cc)
+    (λ x b q k. search (rules, tests))

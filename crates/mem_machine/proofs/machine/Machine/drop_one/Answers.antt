@@ -1,16 +1,16 @@
 use Rattle.std.proofs.Common.{◌<◌, rules, sym}
+use Rattle.group_tree.specs.Bounds.{most_groups}
 use Rattle.mem_machine.specs.Kept.{machine_of}
 use Rattle.mem_machine.proofs.Clean.{clean_after_free}
 use Rattle.mem_machine.proofs.Fresh.{collect_legal, drop_all, drop_charged, drop_in_use, dropped_notes, may_return, none_reported_here, sum_some, unit_inside}
 use Rattle.mem_machine.proofs.Made.{visits_here}
-use Rattle.mem_machine.proofs.Noted.{legal_step}
 use Rattle.mem_machine.proofs.machine.Machine.drop_one.Goals as goal
 
 pub collect_fresh-frame-requires : goal.collect_fresh-frame-requires
 collect_fresh-frame-requires g c =
     let t = g.N.BootName.table in
     let m = machine_of c.self.inside in
-    let fits : c.args.group < 64 = search rules in
+    let fits : c.args.group < most_groups = search rules in
     let visit = visits_here t m _ c.self.view_is c.args.cpu.now c.requires.visit in
     record {
       held = visit.held;
@@ -22,13 +22,17 @@ collect_fresh-frame-requires g c =
           c.requires.fresh;
     }
 
-pub free_unit-requires : goal.free_unit-requires
-free_unit-requires g c =
+pub return_unit-requires : goal.return_unit-requires
+return_unit-requires g c =
     let t = g.N.BootName.table in
     let m = machine_of c.self.inside in
     let front = c.collect_fresh-frame.ensures.cpu.front in
     let one = c.single_order-order.ensures in
+    let e = c.collect_fresh-frame.ensures in
     record {
+      held = c.collect_fresh-frame.ensures.held;
+      legal = may_return g.N.BootName.table (machine_of c.self.inside) _ c.self.view_is c.args.cpu.now c.requires.visit c.self.invariant.consistent c.args.group c.requires.group
+          c.collect_fresh-frame.result _ e.cpu.front _ e.notes c.requires.killed _ c.number-at.ensures;
       in_use = drop_in_use t m _ c.self.view_is c.args.cpu.now c.requires.visit c.self.invariant.consistent c.args.group c.requires.group
           c.collect_fresh-frame.result _ front _ c.self.invariant.free _ _ c.number-at.ensures one;
       inside = unit_inside t m _ c.self.view_is c.args.cpu.now c.requires.visit c.self.invariant.consistent c.args.group c.requires.group
@@ -37,20 +41,14 @@ free_unit-requires g c =
           c.collect_fresh-frame.result _ front _ one;
     }
 
-pub make_step-requires-clause-legal : goal.make_step-requires-clause-legal
-make_step-requires-clause-legal g c =
-    let e = c.collect_fresh-frame.ensures in
-    legal_step _ _ _ _ (may_return g.N.BootName.table (machine_of c.self.inside) _ c.self.view_is c.args.cpu.now c.requires.visit c.self.invariant.consistent c.args.group c.requires.group
-    c.collect_fresh-frame.result _ e.cpu.front _ e.notes c.requires.killed _ c.number-at.ensures) tt (search rules)
-
 pub invariant_of-self : goal.invariant_of-self
 invariant_of-self g c =
     let t = g.N.BootName.table in
-    let fits : c.args.group < 64 = search rules in
+    let fits : c.args.group < most_groups = search rules in
     let e = c.collect_fresh-frame.ensures in
-    let u = c.free_unit.ensures in
+    let u = c.return_unit.ensures in
     let notes = dropped_notes t (machine_of c.self.inside) _ c.self.view_is c.args.cpu.now c.requires.visit c.self.invariant.consistent c.args.group c.requires.group
-    c.collect_fresh-frame.result _ e.cpu.front _ e.notes _ _ c.number-at.ensures (c.make_step.ensures.notes _ _ (search rules)) in
+    c.collect_fresh-frame.result _ e.cpu.front _ e.notes _ _ c.number-at.ensures c.return_unit.ensures.notes in
     let all = drop_all t (machine_of c.self.inside) _ c.self.view_is c.args.cpu.now c.requires.visit c.self.invariant.consistent c.args.group c.requires.group
     c.collect_fresh-frame.result _ e.cpu.front _ _ _ _ _ c.self.invariant.free c.self.invariant.sums c.self.invariant.owners fits c.requires.killed _ e.cpu e.sums _ _
     c.number-at.ensures c.single_order-order.ensures _ u.frame_states _ u.frames u.areas _ u.charges _ c.with_killed_fresh-self-inside.ensures _ notes in
@@ -59,11 +57,11 @@ invariant_of-self g c =
 pub returns : goal.returns
 returns g c =
     let t = g.N.BootName.table in
-    let fits : c.args.group < 64 = search rules in
+    let fits : c.args.group < most_groups = search rules in
     let e = c.collect_fresh-frame.ensures in
-    let u = c.free_unit.ensures in
+    let u = c.return_unit.ensures in
     let notes = dropped_notes t (machine_of c.self.inside) _ c.self.view_is c.args.cpu.now c.requires.visit c.self.invariant.consistent c.args.group c.requires.group
-    c.collect_fresh-frame.result _ e.cpu.front _ e.notes _ _ c.number-at.ensures (c.make_step.ensures.notes _ _ (search rules)) in
+    c.collect_fresh-frame.result _ e.cpu.front _ e.notes _ _ c.number-at.ensures c.return_unit.ensures.notes in
     let all = drop_all t (machine_of c.self.inside) _ c.self.view_is c.args.cpu.now c.requires.visit c.self.invariant.consistent c.args.group c.requires.group
     c.collect_fresh-frame.result _ e.cpu.front _ _ _ _ _ c.self.invariant.free c.self.invariant.sums c.self.invariant.owners fits c.requires.killed _ e.cpu e.sums _ _
     c.number-at.ensures c.single_order-order.ensures _ u.frame_states _ u.frames u.areas _ u.charges _ c.with_killed_fresh-self-inside.ensures _ notes in

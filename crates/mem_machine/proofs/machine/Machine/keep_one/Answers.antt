@@ -1,4 +1,5 @@
 use Rattle.std.proofs.Common.{◌<◌, rules, ap, subst, sym, arith}
+use Rattle.group_tree.specs.Bounds.{most_groups}
 use Rattle.lru_lists.specs.{owner_of}
 use Rattle.mem_machine.specs.{AreCleanCounts, machine_of}
 use Rattle.mem_machine.proofs.Clean.{clean_kept_here, clean_room}
@@ -10,7 +11,7 @@ pub collect_fresh-head-requires : goal.collect_fresh-head-requires
 collect_fresh-head-requires g c =
     let t = g.N.BootName.table in
     let m = machine_of c.self.inside in
-    let fits : c.args.group < 64 = search rules in
+    let fits : c.args.group < most_groups = search rules in
     let visit = visits_here t m _ c.self.view_is c.args.cpu.now c.requires.visit in
     record {
       held = visit.held;
@@ -37,7 +38,7 @@ join_list-requires-clause-frame g c =
 
 pub join_list-requires-clause-room : goal.join_list-requires-clause-room
 join_list-requires-clause-room g c =
-    let fits : c.args.group < 64 = search rules in
+    let fits : c.args.group < most_groups = search rules in
     clean_room g.N.BootName.table (machine_of c.self.inside) c.self.invariant.consistent _ c.self.invariant.clean c.args.group fits
 
 pub join_list-requires-clause-away : goal.join_list-requires-clause-away
@@ -54,7 +55,7 @@ publish-requires-clause-legal g c =
 pub invariant_of-self : goal.invariant_of-self
 invariant_of-self g c =
     let t = g.N.BootName.table in
-    let fits : c.args.group < 64 = search rules in
+    let fits : c.args.group < most_groups = search rules in
     let e = c.collect_fresh-head.ensures in
     let a = c.join_list.ensures in
     let notes = kept_notes t (machine_of c.self.inside) _ c.self.view_is c.args.cpu.now c.requires.visit c.self.invariant.consistent c.args.group c.requires.group
@@ -73,7 +74,7 @@ invariant_of-self g c =
 pub returns : goal.returns
 returns g c =
     let t = g.N.BootName.table in
-    let fits : c.args.group < 64 = search rules in
+    let fits : c.args.group < most_groups = search rules in
     let e = c.collect_fresh-head.ensures in
     let a = c.join_list.ensures in
     let notes = kept_notes t (machine_of c.self.inside) _ c.self.view_is c.args.cpu.now c.requires.visit c.self.invariant.consistent c.args.group c.requires.group

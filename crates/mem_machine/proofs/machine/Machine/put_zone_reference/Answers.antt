@@ -5,7 +5,6 @@ use Rattle.mem_machine.specs.declared.releasing.Released.TheVariants.{Left, Retu
 use Rattle.mem_machine.specs.{AreCleanCounts, machine_of, release_steps}
 use Rattle.mem_machine.proofs.Clean.{clean_after_free, clean_left_here, clean_there_here}
 use Rattle.mem_machine.proofs.Freeing.{unit_in_use, unit_charged}
-use Rattle.mem_machine.proofs.Noted.{legal_step}
 use Rattle.mem_machine.proofs.Releases.{left_all, left_few, notes_back, notes_of_zone, put_may, put_returns, read_head, return_may, returned_all}
 use Rattle.mem_machine.proofs.AtTable.{made_at, may_at}
 use Rattle.mem_machine.proofs.Made.{held_here}
@@ -65,24 +64,19 @@ returns-in-Left g c =
     (left_few t m.run.past _ c.args.head _ held made).0 _ noted _ c.self.invariant.free in
     record { releases = all.releases; visit = all.visit; steps = all.steps }
 
-pub free_unit-requires : goal.free_unit-requires
-free_unit-requires g c =
+pub return_unit-requires : goal.return_unit-requires
+return_unit-requires g c =
     let t = g.N.BootName.table in
     let m = machine_of c.self.inside in
     let head = read_head t m c.self.invariant.consistent c.args.head _ c.requires.frame c.number-at.ensures _ c.in-Head.unit c.index.ensures c.in-Head.is in
     record {
+      held = (made_at _ _ c.args.tables.now.words_are 0 refl _ _ _ _ c.in-Last.ensures).held;
+      legal = return_may t m.run.past _ c.args.head _ c.number-at.ensures (Put c.args.head) answer.Last (made_at _ _ c.args.tables.now.words_are 0 refl _ _ _ _ c.in-Last.ensures)
+          (put_returns t m _ c.self.view_is c.self.invariant.consistent c.args.head _ c.requires.frame c.number-at.ensures c.requires.kept c.requires.held c.in-Head.unit head);
       in_use = unit_in_use _ _ _ c.in-Head.unit c.self.invariant.free c.self.invariant.consistent.units head;
       inside = (c.self.invariant.consistent.units.heads _ c.in-Head.unit head).block.inside;
       charged = unit_charged t m c.self.invariant.consistent _ c.in-Head.unit head;
     }
-
-pub make_step-requires-clause-legal : goal.make_step-requires-clause-legal
-make_step-requires-clause-legal g c =
-    let t = g.N.BootName.table in
-    let m = machine_of c.self.inside in
-    let head = read_head t m c.self.invariant.consistent c.args.head _ c.requires.frame c.number-at.ensures _ c.in-Head.unit c.index.ensures c.in-Head.is in
-    legal_step _ _ _ _ (return_may t m.run.past _ c.args.head _ c.number-at.ensures (Put c.args.head) answer.Last (made_at _ _ c.args.tables.now.words_are 0 refl _ _ _ _ c.in-Last.ensures)
-    (put_returns t m _ c.self.view_is c.self.invariant.consistent c.args.head _ c.requires.frame c.number-at.ensures c.requires.kept c.requires.held c.in-Head.unit head)) tt (search rules)
 
 pub invariant_of-self-in-Last : goal.invariant_of-self-in-Last
 invariant_of-self-in-Last g c =
@@ -91,16 +85,16 @@ invariant_of-self-in-Last g c =
     let head = read_head t m c.self.invariant.consistent c.args.head _ c.requires.frame c.number-at.ensures _ c.in-Head.unit c.index.ensures c.in-Head.is in
     let noted = notes_back t m.run _ c.args.head _ c.number-at.ensures (λ x. Put x) answer.Last
     (notes_of_zone t m.run _ c.args.head _ c.number-at.ensures (λ x. Put x) answer.Last
-    (made_at _ _ c.args.tables.now.words_are 0 refl _ _ _ _ c.in-Last.ensures) (c.take-in-Last.ensures _ _ (search rules))) _ (c.make_step.ensures.notes _ _ (search rules)) in
+    (made_at _ _ c.args.tables.now.words_are 0 refl _ _ _ _ c.in-Last.ensures) (c.take-in-Last.ensures _ _ (search rules))) _ c.return_unit.ensures.notes in
     let all = returned_all t m _ c.self.view_is c.self.invariant.consistent c.args.head _ c.requires.frame c.number-at.ensures c.requires.kept c.requires.held _ _
     c.leave_list.ensures.leaves c.leave_list.ensures.lists.stand c.leave_list.ensures.frames c.leave_list.ensures.lists.groups c.in-Head.unit head _ _ _ _ _ _
-    c.self.invariant.free c.free_unit.ensures.frame_states c.free_unit.ensures.frames c.free_unit.ensures.areas c.free_unit.ensures.charges
+    c.self.invariant.free c.return_unit.ensures.frame_states c.return_unit.ensures.frames c.return_unit.ensures.areas c.return_unit.ensures.charges
     c.with_last_put-self-inside.ensures _ noted in
     let held = held_here t m _ c.self.view_is c.requires.held in
     record {
       consistent = all.consistent;
       free = all.free_is;
-      clean = clean_after_free t _ all.consistent _ _ _ _ c.free_unit.ensures.frame_states (subst (AreCleanCounts _ _) (sym c.leave_list.ensures.clean)
+      clean = clean_after_free t _ all.consistent _ _ _ _ c.return_unit.ensures.frame_states (subst (AreCleanCounts _ _) (sym c.leave_list.ensures.clean)
           (clean_left_here t m _ c.self.view_is c.self.invariant.consistent c.args.head _ c.requires.frame c.number-at.ensures c.requires.kept c.in-Head.unit head _
           c.self.invariant.clean _ _ c.leave_list.ensures.leaves));
       sums = sums_stay t m held (release_steps c.args.head Returned) _ noted (same_books _ _ refl) _ c.self.invariant.sums;
@@ -114,10 +108,10 @@ returns-in-Last g c =
     let head = read_head t m c.self.invariant.consistent c.args.head _ c.requires.frame c.number-at.ensures _ c.in-Head.unit c.index.ensures c.in-Head.is in
     let noted = notes_back t m.run _ c.args.head _ c.number-at.ensures (λ x. Put x) answer.Last
     (notes_of_zone t m.run _ c.args.head _ c.number-at.ensures (λ x. Put x) answer.Last
-    (made_at _ _ c.args.tables.now.words_are 0 refl _ _ _ _ c.in-Last.ensures) (c.take-in-Last.ensures _ _ (search rules))) _ (c.make_step.ensures.notes _ _ (search rules)) in
+    (made_at _ _ c.args.tables.now.words_are 0 refl _ _ _ _ c.in-Last.ensures) (c.take-in-Last.ensures _ _ (search rules))) _ c.return_unit.ensures.notes in
     let all = returned_all t m _ c.self.view_is c.self.invariant.consistent c.args.head _ c.requires.frame c.number-at.ensures c.requires.kept c.requires.held _ _
     c.leave_list.ensures.leaves c.leave_list.ensures.lists.stand c.leave_list.ensures.frames c.leave_list.ensures.lists.groups c.in-Head.unit head _ _ _ _ _ _
-    c.self.invariant.free c.free_unit.ensures.frame_states c.free_unit.ensures.frames c.free_unit.ensures.areas c.free_unit.ensures.charges
+    c.self.invariant.free c.return_unit.ensures.frame_states c.return_unit.ensures.frames c.return_unit.ensures.areas c.return_unit.ensures.charges
     c.with_last_put-self-inside.ensures _ noted in
     record { releases = all.releases; visit = all.visit; steps = all.steps }
 

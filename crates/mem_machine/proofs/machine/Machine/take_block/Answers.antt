@@ -1,4 +1,5 @@
 use Rattle.std.proofs.Common.{ℕ, ◌≤◌, ◌<◌, ◌^◌, ap, refl, sym, subst, ◌∙◌, rules, arith, IsTrue, ◌+◌}
+use Rattle.group_tree.specs.Bounds.{most_groups}
 use Rattle.group_tree.specs.{has_group, IsLowestOver}
 use Rattle.group_charge.specs.Charges.{current_of}
 use Rattle.zone_blocks.specs.Zone.{BuddyZone}
@@ -111,7 +112,7 @@ place_unit-requires g c =
 
 pub join_list-requires-clause-room : goal.join_list-requires-clause-room
 join_list-requires-clause-room g c =
-    let fits : c.args.group < 64 = search rules in
+    let fits : c.args.group < most_groups = search rules in
     clean_room g.N.BootName.table (machine_of c.self.inside) c.self.invariant.consistent _ c.self.invariant.clean c.args.group fits
 
 pub join_list-requires-clause-away : goal.join_list-requires-clause-away
@@ -137,7 +138,7 @@ pub invariant_of-self-2 : goal.invariant_of-self-2
 invariant_of-self-2 g c =
     let t = g.N.BootName.table in
     let m = machine_of c.self.inside in
-    let fits : c.args.group < 64 = search rules in
+    let fits : c.args.group < most_groups = search rules in
     let j = c.join_list.ensures in
     let noted = taken_notes t _ _ _ _ c.args.group c.args.order _ c.in-Some-frame.head c.in-Some.block c.frames-pages.ensures.frames c.in-Some-frame.ensures.0
     c.in-Some.ensures.taken.order_is (c.make_step-2.ensures.notes _ _ (search rules)) (c.make_step-3.ensures.notes _ _ (search rules)) c.publish.ensures in
@@ -161,7 +162,7 @@ pub returns : goal.returns
 returns g c =
     let t = g.N.BootName.table in
     let m = machine_of c.self.inside in
-    let fits : c.args.group < 64 = search rules in
+    let fits : c.args.group < most_groups = search rules in
     let j = c.join_list.ensures in
     let all = taken_all t m _ c.self.view_is c.self.invariant.consistent c.prove_charges.ensures.legal c.requires.visit.held c.args.group fits c.args.order _
     c.frames-pages.ensures.frames c.requires.charges (c.in_default.ensures.granted.0 refl) _ c.in_default.ensures.charged c.in_default.ensures.pages _ _ c.in-Some.block _

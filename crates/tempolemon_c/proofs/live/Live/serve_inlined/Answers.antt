@@ -2,7 +2,7 @@ use Rattle.std.proofs.Common.{◌≡◌, ◌≤◌, ◌∙◌, ◌++◌, List, d
 use Rattle.std.proofs.lemmas.List.{take-append-le, take_all}
 use Rattle.mem_system.specs.Cpus.{CpuInRun}
 use Rattle.script_lines.specs.declared.line.Command.{Command}
-use Rattle.script_replay.specs.{system_state, CpuCommandInRange, SaysCommand, answer_of}
+use Rattle.script_replay.specs.{system_state, CpuCommandInRange, SaysCommand}
 use Rattle.tempolemon_c.specs.{ReturnsCommandAnswer, KnownLive}
 use Rattle.tempolemon_c.specs.declared.calls.CallAnswer.TheVariants.{Served}
 use Rattle.tempolemon_c.proofs.live.Live.serve_inlined.Goals as goal
@@ -25,9 +25,8 @@ returns g c =
       state = system_state c.serve_value.new.locked cpus;
       unread_answer = inside.unread_answer.items;
     } in
-    let said = answer_of left.state.locked.machine.ledger value in
-    let says : SaysCommand frames cpu command live.state left.state said =
-    subst (λ l. SaysCommand frames cpu command (system_state inside.locked l) left.state said)
+    let says : SaysCommand frames cpu command live.state left.state value =
+    subst (λ l. SaysCommand frames cpu command (system_state inside.locked l) left.state value)
     c.deref_mut.ensures.value c.serve_value.ensures.answer in
     let there : CpuCommandInRange inside.sizes.frames inside.sizes.cpus cpu command = search rules in
     let short : inside.cpus.len ≤ length cpus = search rules in
@@ -44,7 +43,7 @@ returns g c =
     (record { sizes = inside.sizes; state = system_state c.serve_value.new.locked l; unread_answer = inside.unread_answer.items })
     (Served value)) (sym same)
     (record {
-      answer = said;
+      answer = value;
       serves = record { there = there; says = says; rest = record { sizes = refl; unread_answer = refl } };
       is_answer = (c.serve_value.ensures.groups, refl);
     }))

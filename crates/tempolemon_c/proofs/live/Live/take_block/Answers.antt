@@ -6,7 +6,7 @@ use Rattle.group_tree.specs.Groups.{number_at, path_of}
 use Rattle.group_charge.specs.Charges.{AreCharges, Ledger}
 use Rattle.mem_system.specs.Cpus.{CpuInRun}
 use Rattle.script_lines.specs.declared.line.Command.TheVariants as cmd
-use Rattle.script_replay.specs.{system_state, SaysCommand, answer_of}
+use Rattle.script_replay.specs.{system_state, SaysCommand}
 use Rattle.tempolemon_c.specs.{CallsLive, IsCpu, KnownLive}
 use Rattle.tempolemon_c.specs.declared.calls.Call.TheVariants.{Alloc}
 use Rattle.tempolemon_c.specs.declared.calls.CallAnswer.TheVariants.{Served}
@@ -34,9 +34,9 @@ returns g c =
     } in
     let says : (named : Bor (List ℕ)) → number_at live.state.locked.machine.ledger.groups named.now ≡ Some group
     → SaysCommand g.N.BootName.table c.args.cpu (cmd.Alloc named c.args.order) live.state left.state
-    (answer_of left.state.locked.machine.ledger c.alloc_value.result) =
+    c.alloc_value.result =
     λ named found. subst (λ cpus. SaysCommand g.N.BootName.table c.args.cpu (cmd.Alloc named c.args.order)
-    (system_state c.self.inside.locked cpus) left.state (answer_of left.state.locked.machine.ledger c.alloc_value.result))
+    (system_state c.self.inside.locked cpus) left.state c.alloc_value.result)
     c.deref_mut.ensures.value (c.alloc_value.ensures.answer named found) in
     let most : c.args.cpu ≤ c.self.inside.sizes.cpus = search rules in
     let exists : IsCpu c.self.inside.sizes.cpus c.args.cpu = record { low = c.requires.there.low; high = most } in

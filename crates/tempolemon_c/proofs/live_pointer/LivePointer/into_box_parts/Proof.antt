@@ -1,20 +1,16 @@
 -- `into_box_parts` moves two fields, and the box owns what the pointer owned.
-use Rattle.host_memory.proofs.Moves.{moved, owned, shown}
-use Rattle.host_memory.proofs.Walks.{◌≡◌, refl, sym, ap, ◌∙◌, ◌⊑◌, fact, Args, a_type, bounded, dcons, dnil, ghosts, inst_fn, no, param, shape, false≢true, IsSome, None, Option, Some, ◌∷◌, []}
+use Rattle.host_memory.proofs.Moves.{moved, owned, shown, some_of}
+use Rattle.host_memory.proofs.Walks.{◌≡◌, refl, sym, ap, ◌∙◌, ◌⊑◌, fact, Args, a_type, bounded, dcons, dnil, ghosts, inst_fn, no, param, shape, IsSome, ◌∷◌, []}
 use base.Logic.{snd∗}
 use Rattle.std_heap.specs.contracts.Global as Heap
 use Rattle.host_memory.specs.contracts.box_parts.BoxParts as BoxParts
-use Rattle.tempolemon_c.specs.{live_owns, KnownLive}
+use Rattle.tempolemon_c.specs.{live_owns}
 use Rattle.tempolemon_c.specs.contracts.live.Live as Live
 use Rattle.tempolemon_c.specs.contracts.live_pointer.LivePointer as LivePointer
 use Rattle.tempolemon_c.specs.contracts.live_pointer.LivePointer.into_box_parts as F
 use Rattle.tempolemon_c.specs.contracts.live_pointer.LivePointer.into_box_parts.Key.{name as #self}
 use Rattle.tempolemon_c.proofs.live_pointer.LivePointer.into_box_parts.Statement as stated
 use Rattle.tempolemon_c.proofs.live_pointer.LivePointer.into_box_parts.Code as code
-
-some_of : (o : Option KnownLive) → IsSome o → (live : KnownLive) × (Some live ≡ o)
-some_of None some = absurd (false≢true some)
-some_of (Some live) some = (live, refl)
 
 pub into_box_parts_spec : {M : Type 1} → stated.statement M
 into_box_parts_spec 𝓤 𝓛 𝓜 𝓡 wired N L g d met =

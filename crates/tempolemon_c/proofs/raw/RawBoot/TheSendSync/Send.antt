@@ -1,7 +1,8 @@
 -- A pointer to the parts of a boot may cross threads, as the parts may.
 use Rattle.boot_words.specs.Tables.{KnownTable}
 use Rattle.host_memory.proofs.Sends.{Ptr, exits_of, shape, fields, to, IsSend, AllSend, owning_send, struct_send, sendable, Keyless, Option, None, Some, Global, quiet, the_field_send, box_crosses}
-use Rattle.tempolemon_c.specs.{KnownLive, brand, live_row, live_owns}
+use Rattle.host_memory.specs.{brand}
+use Rattle.tempolemon_c.specs.{KnownLive, live_row, live_owns}
 use Rattle.tempolemon_c.proofs.live.Live.TheSendSync.{the_send as live_send}
 use Rattle.tempolemon_c.specs.contracts.raw.RawBoot.{the_row, the_type}
 

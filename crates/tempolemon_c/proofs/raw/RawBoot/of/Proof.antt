@@ -1,7 +1,8 @@
 -- `of` moves two fields, and what they own goes with them.
 use Rattle.host_memory.proofs.Moves.{always, moved, shown}
 use Rattle.host_memory.proofs.Walks.{refl, shape, yes}
-use Rattle.tempolemon_c.specs.Owned.{brand, live_owns}
+use Rattle.host_memory.specs.{brand}
+use Rattle.tempolemon_c.specs.Owned.{live_owns}
 use Rattle.tempolemon_c.specs.contracts.raw.RawBoot as RawBoot
 use Rattle.tempolemon_c.specs.contracts.live_pointer.LivePointer as LivePointer
 use Rattle.tempolemon_c.specs.contracts.raw.RawBoot.of as F

@@ -2,7 +2,8 @@
 use Rattle.std.proofs.Common.{sym, subst}
 use Rattle.std.specs.Prelude.{IsSome}
 use Rattle.tempolemon_threads.specs.declared.raw.RawHome.{RawHome}
-use Rattle.tempolemon_threads.specs.{zone_behind, EndsAs, led_of}
+use Rattle.host_memory.specs.{led_of}
+use Rattle.tempolemon_threads.specs.{zone_behind, EndsAs}
 use Rattle.tempolemon_threads.proofs.Crossing.{ends_led}
 use Rattle.tempolemon_threads.proofs.handles.Zone.end.Goals as goal
 

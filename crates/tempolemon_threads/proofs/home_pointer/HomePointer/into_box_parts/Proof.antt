@@ -1,21 +1,16 @@
 -- `into_box_parts` moves two fields, and the box owns what the pointer owned.
-use Rattle.host_memory.proofs.Moves.{moved, owned, shown}
-use Rattle.host_memory.proofs.Walks.{◌≡◌, refl, sym, ap, ◌∙◌, ◌⊑◌, fact, Args, a_type, bounded, dcons, dnil, ghosts, inst_fn, no, param, shape, false≢true, IsSome, None, Option, Some, ◌∷◌, []}
+use Rattle.host_memory.proofs.Moves.{moved, owned, shown, some_of}
+use Rattle.host_memory.proofs.Walks.{◌≡◌, refl, sym, ap, ◌∙◌, ◌⊑◌, fact, Args, a_type, bounded, dcons, dnil, ghosts, inst_fn, no, param, shape, IsSome, ◌∷◌, []}
 use base.Logic.{snd∗}
 use Rattle.std_heap.specs.contracts.Global as Heap
 use Rattle.host_memory.specs.contracts.box_parts.BoxParts as BoxParts
 use Rattle.tempolemon_threads.specs.Owned.{home_owns}
-use Rattle.zone_threads.specs.Homes.{KnownHome}
 use Rattle.zone_threads.specs.contracts.home.Home as Home
 use Rattle.tempolemon_threads.specs.contracts.home_pointer.HomePointer as HomePointer
 use Rattle.tempolemon_threads.specs.contracts.home_pointer.HomePointer.into_box_parts as F
 use Rattle.tempolemon_threads.specs.contracts.home_pointer.HomePointer.into_box_parts.Key.{name as #self}
 use Rattle.tempolemon_threads.proofs.home_pointer.HomePointer.into_box_parts.Statement as stated
 use Rattle.tempolemon_threads.proofs.home_pointer.HomePointer.into_box_parts.Code as code
-
-some_of : (o : Option KnownHome) → IsSome o → (home : KnownHome) × (Some home ≡ o)
-some_of None some = absurd (false≢true some)
-some_of (Some home) some = (home, refl)
 
 pub into_box_parts_spec : {M : Type 1} → stated.statement M
 into_box_parts_spec 𝓤 𝓛 𝓜 𝓡 wired N L g d met =

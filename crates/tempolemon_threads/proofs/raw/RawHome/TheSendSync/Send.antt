@@ -3,7 +3,8 @@ use Rattle.boot_words.specs.Tables.{KnownTable}
 use Rattle.host_memory.proofs.Sends.{Ptr, exits_of, shape, fields, to, IsSend, AllSend, owning_send, struct_send, sendable, Keyless, Option, None, Some, Global, quiet, the_field_send, box_crosses}
 use Rattle.zone_threads.specs.Homes.{KnownHome}
 use Rattle.zone_threads.proofs.home.Home.TheSendSync.{the_send as home_send}
-use Rattle.tempolemon_threads.specs.Owned.{brand, home_row, home_owns}
+use Rattle.host_memory.specs.{brand}
+use Rattle.tempolemon_threads.specs.Owned.{home_row, home_owns}
 use Rattle.tempolemon_threads.specs.contracts.raw.RawHome.{the_row, the_type}
 
 owned : (f : KnownTable) (a : Global) (p : Ptr) (o : Option KnownHome) → Keyless (home_owns brand f a p o)

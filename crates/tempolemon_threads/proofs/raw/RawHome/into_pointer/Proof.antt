@@ -1,7 +1,8 @@
 -- `into_pointer` moves two fields, and what they own goes with them.
 use Rattle.host_memory.proofs.Moves.{always, moved, shown}
 use Rattle.host_memory.proofs.Walks.{refl, shape, yes}
-use Rattle.tempolemon_threads.specs.Owned.{brand, home_owns}
+use Rattle.host_memory.specs.{brand}
+use Rattle.tempolemon_threads.specs.Owned.{home_owns}
 use Rattle.tempolemon_threads.specs.contracts.raw.RawHome as RawHome
 use Rattle.tempolemon_threads.specs.contracts.home_pointer.HomePointer as HomePointer
 use Rattle.tempolemon_threads.specs.contracts.raw.RawHome.into_pointer as F
