@@ -38,12 +38,12 @@ pub has_ended : (f : KnownTable) (loan : KnownLoan (Box KnownBehind)) (ended : S
 has_ended f loan ended parked =
     (parked.found.value.parked, record { locked = parked.found.value.locked; sound = parked.ends.sound; so = parked.ends })
 
--- a refused entry leaves the home as it was
-home_stays : (cpus number : ℕ) (from to : KnownHome) (reason : NotEntered) → IfNotEntered cpus number from reason to → to ≡ from
-home_stays cpus number from to not_entered.NoCpu is = is.2
-home_stays cpus number from to not_entered.Out is = is.stays
-home_stays cpus number from to not_entered.HasCpu is = is.1
-home_stays cpus number from to not_entered.Busy is = is.stays
+-- a refused entry leaves a home without a CPU without one
+no_cpu_yet : (cpus number : ℕ) (from to : KnownHome) (reason : NotEntered) → IfNotEntered cpus number from reason to → HasNoCpu from → HasNoCpu to
+no_cpu_yet cpus number from to not_entered.NoCpu is none = subst HasNoCpu (sym is.2) none
+no_cpu_yet cpus number from to not_entered.Out is none = subst HasNoCpu (sym is.shows) none
+no_cpu_yet cpus number from to not_entered.HasCpu is none = subst HasNoCpu (sym is.1) none
+no_cpu_yet cpus number from to not_entered.Busy is none = subst HasNoCpu (sym is.stays) none
 
 -- a home without a CPU is gone after a return
 home_gone : (f : KnownTable) (a : Global) (before after : Option KnownHome) (said : RequestAnswer) → IsSomeAnd before HasNoCpu
@@ -71,7 +71,7 @@ refused_gone f g a number home between after said left reason none enters is lea
     let on : OnKnown (λ (from to : KnownHome). IfNotEntered f.cpus number from reason to) home between =
     subst (λ (x : RequestAnswer). ServesHomeRequest f home (Enter number) between x) is enters in
     let was : HasNoCpu on.from = subst (λ (o : Option KnownHome). IsSomeAnd o HasNoCpu) on.was none in
-    let now : HasNoCpu on.to = subst HasNoCpu (sym (home_stays f.cpus number on.from on.to reason on.done)) was in
+    let now = no_cpu_yet f.cpus number on.from on.to reason on.done was in
     home_gone g a between after left (subst (λ (o : Option KnownHome). IsSomeAnd o HasNoCpu) (sym on.is) now) leaves
 
 -- an end by the pointer behind a zone's handle is one by the handle

@@ -173,10 +173,14 @@ impl CountedLines {
         }
     }
 
+    /// How many lines were answered.
+    pub fn answered(&self) -> u64 {
+        self.lines_answered.load(Ordering::SeqCst)
+    }
+
     /// Whether fewer lines were answered than begun.
     pub fn has_cut_a_line(&self) -> bool {
-        let answered = self.lines_answered.load(Ordering::SeqCst);
-        answered < self.lines_begun.load(Ordering::SeqCst)
+        self.answered() < self.lines_begun.load(Ordering::SeqCst)
     }
 }
 

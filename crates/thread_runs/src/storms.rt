@@ -2,12 +2,13 @@
 
 ghost use Rattle.std.specs.Prelude.{◌≡◌, ◌<◌, length};
 
+use crate::gates::CountedLines;
 use crate::systems::{add, expect_true, run_script};
 use rand_core::{Rng, SeedableRng};
 use rand_pcg::Pcg32;
 use script_lines::line::{Command, Line};
 use script_lines::script::parse_script;
-use script_replay::{NoGate, before_go};
+use script_replay::before_go;
 use std::process::Abort;
 use std::slice::Iter;
 use std::str;
@@ -331,14 +332,11 @@ fn the_storm_adds_up(rt: &(impl Abort + AllocGlobal), after_threads: &[u8], pins
 fn what_threads_leave_adds_up(rt: HostRuntime) {
     let script = storm_script(&rt, 2_026);
     let asked = ask_after_the_storm(&rt);
-    let told = run_script(
-        &rt,
-        FOUR_PROCESSORS,
-        script.as_str(),
-        asked.as_str(),
-        &NoGate,
-    );
+    let gate = CountedLines::new();
+    let told = run_script(&rt, FOUR_PROCESSORS, script.as_str(), asked.as_str(), &gate);
     let told = told.expect(&rt, "a run");
+    let lines = u64::from(4 * STORM_LINES);
+    expect_true(&rt, gate.answered() >= lines && !gate.has_cut_a_line());
     let pins = pins_after(&rt, script.as_str(), &told.by_threads);
     expect_true(&rt, told.pins_left == pins.of_cpus);
     the_storm_adds_up(&rt, &told.after_threads, &pins);

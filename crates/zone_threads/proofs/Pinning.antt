@@ -1,7 +1,7 @@
 -- A CPU that may have one more pin may still have it after an allocation of a block, why a pin is missed all the same, and
 -- what such a call answers. Serves `Behind::alloc_pinned` and `Home::alloc_pinned`.
-use Rattle.std.proofs.Common.{◌≡◌, ◌≢◌, ◌∙◌, ℕ, ◌≤◌, Some, List, [], ◌∷◌, ◌++◌, length, ap, arith, inl, inr, refl, subst}
-use Rattle.std.specs.Prelude.{Ok}
+use Rattle.std.proofs.Common.{◌≡◌, ◌≢◌, ◌∙◌, ℕ, ◌≤◌, List, [], ◌∷◌, ◌++◌, length, ap, arith, inl, inr, refl, subst}
+use Rattle.std.specs.Prelude.{IsSomeAnd, Ok}
 use Rattle.std.proofs.lemmas.Bool.{cases_Bool}
 use Rattle.frame_word.specs.declared.answers.Get.{Get}
 use Rattle.frame_word.specs.declared.answers.Get.TheVariants.{Full, Held, Raced, Zero}
@@ -16,7 +16,6 @@ use Rattle.boot_words.specs.declared.past.Past.{Past}
 use Rattle.boot_words.specs.Pasts.{get_said}
 use Rattle.boot_words.specs.Tables.{KnownTable}
 use Rattle.boot_words.proofs.Holding.{allowed_at, take_length}
-use Rattle.zone_blocks.specs.declared.config.Config.{Config}
 use Rattle.group_tree.specs.declared.fault.Fault.TheVariants.{NotPinned}
 use Rattle.cpu_part.specs.Cpus.{KnownCpuLists}
 use Rattle.mem_machine.specs.{ReturnsAllBack, Settles, SettlesAllFresh, SettlesFresh, Transition, transition, UnlistsMany, VisitState, is_fresh_killed}
@@ -27,9 +26,9 @@ use Rattle.mem_system.specs.declared.command.LockedCommand.TheVariants.{Alloc}
 use Rattle.mem_system.specs.declared.outcome.Outcome.{Outcome}
 use Rattle.mem_system.specs.declared.outcome.Outcome.TheVariants as outcome
 use Rattle.mem_system.specs.{CpuInRun, IsServed, LockedState}
-use Rattle.zone_threads.specs.Calling.{AllocatesPinned, Calls, CallsAllocPinned, FindsReferences, HasPinRoom, IsMissedFor, MayPinBlock, MissesPin, Pins}
+use Rattle.zone_threads.specs.Calling.{AllocatesPinned, Calls, FindsReferences, HasPinRoom, IsMissedFor, MayPinBlock, MissesPin, Pins}
 use Rattle.zone_threads.specs.Calling.{ServesPinned}
-use Rattle.zone_threads.specs.{KnownHome}
+use Rattle.zone_threads.specs.{KnownHome, UnderLock}
 use Rattle.zone_threads.specs.declared.calls.Call.TheVariants.{AllocPinned}
 use Rattle.zone_threads.specs.declared.calls.CallAnswer.{CallAnswer}
 use Rattle.zone_threads.specs.declared.calls.CallAnswer.TheVariants as answer
@@ -130,23 +129,9 @@ refusal_served t group order (outcome.Frame f) before after none served = absurd
 refusal_served t group order other before after none served = served
 
 -- what was done under the lock is what the call says
-pinned_answer : (t : KnownTable) (sizes : Config) (group order : ℕ) (said : CallAnswer) (from to : CpuInRun) → MayPinBlock order from
-    → AllocatesPinned t sizes group order said from to → CallsAllocPinned t sizes group order said from to
-pinned_answer t sizes group order answer.NoGroup from to may done = (may, done)
-pinned_answer t sizes group order (answer.Served given) from to may done = (may, done)
-pinned_answer t sizes group order (answer.Refused NotPinned) from to may done = (may, done)
-pinned_answer t sizes group order other from to may done = absurd done
-
--- the sizes that were found are those of the zone
-pub pinned_found : (t : KnownTable) (group order : ℕ) (before after : KnownHome) (from to : CpuInRun) → before.cpu ≡ Some from → after.cpu ≡ Some to
-    → after.sizes ≡ before.sizes → after.change ≡ before.change → (sizes : Config) → sizes ≡ before.sizes → (said : CallAnswer) → MayPinBlock order from
-    → AllocatesPinned t sizes group order said from to → Calls t (AllocPinned group order) before after said
-pinned_found t group order before after from to was is stays change sizes same said may done = record {
-  from = from;
-  to = to;
-  sizes = stays;
-  change = change;
-  was = was;
-  is = is;
-  done = pinned_answer t before.sizes group order said from to may (subst (λ (s : Config). AllocatesPinned t s group order said from to) same done);
-}
+pub pinned_answer : (t : KnownTable) (group order : ℕ) (said : CallAnswer) (before after : KnownHome) → IsSomeAnd before.cpu (MayPinBlock order)
+    → UnderLock (AllocatesPinned t group order said) before after → Calls t (AllocPinned group order) before after said
+pinned_answer t group order answer.NoGroup before after may done = (may, done)
+pinned_answer t group order (answer.Served given) before after may done = (may, done)
+pinned_answer t group order (answer.Refused NotPinned) before after may done = (may, done)
+pinned_answer t group order other before after may done = absurd done.done

@@ -1,5 +1,5 @@
 -- A read under the lock is what the home's read answers. Serves `Home::read`.
-use Rattle.std.proofs.Common.{◌≡◌, ◌≢◌, ◌⊎◌, ℕ, List, Some, inl, inr, refl, subst, sym, ◌∙◌}
+use Rattle.std.proofs.Common.{◌≡◌, ◌≢◌, ◌⊎◌, ℕ, List, inl, inr, refl, subst, sym, ◌∙◌}
 use Rattle.std.specs.Borrow.{Bor}
 use Rattle.group_tree.specs.declared.fault.Fault.{Fault}
 use Rattle.group_tree.specs.declared.fault.Fault.TheVariants.{WriteOnly}
@@ -19,11 +19,15 @@ use Rattle.mem_system.specs.TextCommands.{RefusesByText, ServesText, StandsFor}
 use Rattle.mem_system.specs.{Executes, LockedState, read_outcome}
 use Rattle.zone_blocks.specs.declared.config.Config.{Config}
 use Rattle.boot_words.specs.Tables.{KnownTable}
-use Rattle.mem_system.specs.Cpus.{CpuInRun}
 use Rattle.zone_threads.specs.declared.calls.ReadCall.{ReadCall}
 use Rattle.zone_threads.specs.declared.calls.ReadAnswer.{ReadAnswer}
 use Rattle.zone_threads.specs.declared.calls.ReadAnswer.TheVariants as read
-use Rattle.zone_threads.specs.{KnownHome, AnswersRead, IsReadUnderLock}
+use Rattle.zone_threads.specs.declared.calls.Call.TheVariants.{ReadPages}
+use Rattle.zone_threads.specs.declared.calls.CallAnswer.{CallAnswer}
+use Rattle.zone_threads.specs.declared.calls.CallAnswer.TheVariants as answer
+use Rattle.zone_threads.specs.declared.calls.GroupPages.{GroupPages}
+use Rattle.zone_threads.specs.Calling.{ReadsPages}
+use Rattle.zone_threads.specs.{AnswersRead, Calls, KnownHome, ReadsBehind, UnderLock}
 
 -- ---- a Read is refused, or shows a text
 
@@ -69,17 +73,15 @@ module _ (given : Outcome) (refused : (why : Fault) → given ≢ outcome.Refuse
       none_given groups command (outcome.Refused why) is not = not why refl
       none_given groups command other is not = absurd is
 
--- ---- the home's answer
+-- ---- the home's answers
 
-answers_read : (t : KnownTable) (asked : ReadCall) (before after : KnownHome) (from to : CpuInRun) → before.cpu ≡ Some from → after.cpu ≡ Some to
-    → after.sizes ≡ before.sizes → after.change ≡ before.change → (answer : ReadAnswer) → IsReadUnderLock t before.sizes asked from to answer → AnswersRead t asked before after answer
-answers_read t asked before after from to was is stays change read.Busy done = absurd done
-answers_read t asked before after from to was is stays change (read.Text text) done = record { from = from; to = to; sizes = stays; change = change; was = was; is = is; done = done }
-answers_read t asked before after from to was is stays change (read.Refused fault) done = record { from = from; to = to; sizes = stays; change = change; was = was; is = is; done = done }
+pub answers_read : (t : KnownTable) (asked : ReadCall) (before after : KnownHome) (answer : ReadAnswer)
+    → UnderLock (ReadsBehind t asked answer) before after → AnswersRead t asked before after answer
+answers_read t asked before after read.Busy done = absurd done.done
+answers_read t asked before after (read.Text text) done = done
+answers_read t asked before after (read.Refused fault) done = done
 
--- the sizes that were found are those of the zone
-pub answers_found : (t : KnownTable) (asked : ReadCall) (before after : KnownHome) (from to : CpuInRun) → before.cpu ≡ Some from → after.cpu ≡ Some to
-    → after.sizes ≡ before.sizes → after.change ≡ before.change → (sizes : Config) → sizes ≡ before.sizes → (answer : ReadAnswer) → IsReadUnderLock t sizes asked from to answer
-    → AnswersRead t asked before after answer
-answers_found t asked before after from to was is stays change sizes same answer done =
-    answers_read t asked before after from to was is stays change answer (subst (λ (s : Config). IsReadUnderLock t s asked from to answer) same done)
+pub answers_pages : (t : KnownTable) (group : ℕ) (which : GroupPages) (before after : KnownHome) (said : CallAnswer)
+    → UnderLock (ReadsPages t group which said) before after → Calls t (ReadPages group which) before after said
+answers_pages t group which before after answer.Busy done = absurd done.done.so
+answers_pages t group which before after other done = done

@@ -1,6 +1,6 @@
 -- What each call does to the CPU of a thread, by its answer, and by which steps of the run.
 use Rattle.std.specs.Prelude.{◌≡◌, ◌≢◌, ◌+◌, ◌<◌, ◌≤◌, ◌⊎◌, ◌++◌, ◌∷◌, [], ℕ, zero, suc, true, List, length, None, Ok, Option}
-use Rattle.std.specs.Prelude.{Some}
+use Rattle.std.specs.Prelude.{IsSomeAnd, Some}
 use Rattle.frame_word.specs.declared.answers.Get.{Get}
 use Rattle.frame_word.specs.declared.answers.Get.TheVariants.{Full, Held, Raced, Zero}
 use Rattle.frame_word.specs.declared.answers.Put.{Put}
@@ -19,14 +19,14 @@ use Rattle.cpu_part.specs.declared.answers.Dropped.{Dropped}
 use Rattle.cpu_part.specs.declared.answers.Dropped.TheVariants.{Listed, NeedVisit}
 use Rattle.cpu_part.specs.declared.answers.Fast.{Fast}
 use Rattle.cpu_part.specs.declared.answers.Fast.TheVariants.{Got}
-use Rattle.mem_system.specs.{IsOfZone, CpuInRun, ServesDirtyAlloc, SeenBehindLock, SettlesCaller, IsServed, IsVisited, LockedState}
+use Rattle.mem_system.specs.{IsOfZone, CpuInRun, ServesDirtyAlloc, SettlesCaller, IsServed, LockedState}
 use Rattle.mem_system.specs.{IsShownText, ServesText}
 use Rattle.mem_system.specs.declared.command.LockedCommand.TheVariants as cmd
 use Rattle.mem_system.specs.declared.outcome.Outcome.{Outcome}
 use Rattle.mem_system.specs.declared.outcome.Outcome.TheVariants.{Frame, Refused}
 use Rattle.mem_system.specs.declared.setting.Setting.TheVariants.{Reclaim}
 use Rattle.mem_system.specs.declared.text_command.TextCommand.TheVariants as command
-use Rattle.zone_threads.specs.Homes.{KnownHome, OnCpu}
+use Rattle.zone_threads.specs.Homes.{KnownBehind, KnownHome, OnCpu, SeesBehind, ServesBehind, UnderLock}
 use Rattle.zone_threads.specs.declared.calls.Call.{Call}
 use Rattle.zone_threads.specs.declared.calls.Call.TheVariants as call
 use Rattle.zone_threads.specs.declared.calls.CallAnswer.{CallAnswer}
@@ -165,37 +165,36 @@ pub record MissesFast (group : ℕ) (from to : CpuInRun) : Type 0 where
 abbrev pub MissesDrop : (frame : ℕ) → (from to : CpuInRun) → Type 0
 MissesDrop frame from to = ((times frame from.part.fresh ≡ 0) × (to ≡ from)) ⊎ DropsFast frame NeedVisit from to
 
--- `first` leads from the CPU as it was to the CPU between, and `rest` on from there
-pub record Then (first rest : (from to : CpuInRun) → Type 0) (from to : CpuInRun) : Type 0 where
-  pub between : CpuInRun
+-- `first` leads from the home as it was to the home between, and `rest` on from there
+pub record Then (first rest : (from to : KnownHome) → Type 0) (from to : KnownHome) : Type 0 where
+  pub between : KnownHome
   pub first_done : first from between
   pub rest_done : rest between to
 
--- behind the lock, no group had this number: the CPU has seen the run that led to this
-abbrev pub NoGroupBehindLock : KnownTable → ℕ → (from to : CpuInRun) → Type 0
-NoGroupBehindLock frames group from to =
-    SeenBehindLock frames (λ found. IsMissingIn found.machine.ledger.groups group) from to
+-- behind the lock, no group had this number
+abbrev pub NoGroupBehind : KnownTable → (group : ℕ) → (found left : KnownBehind) (from to : CpuInRun) → Type 0
+NoGroupBehind frames group = SeesBehind frames (λ ledger. IsMissingIn ledger.groups group)
 
 -- what an allocation of a pinned block does under the lock, by its answer
-abbrev pub AllocatesPinned : KnownTable → (sizes : Config) → (group order : ℕ) → CallAnswer → (from to : CpuInRun)
+abbrev pub AllocatesPinned : KnownTable → (group order : ℕ) → CallAnswer → (found left : KnownBehind) (from to : CpuInRun)
     → Type 0
-AllocatesPinned frames sizes group order answer.NoGroup from to = NoGroupBehindLock frames group from to
-AllocatesPinned frames sizes group order (answer.Served outcome) from to =
-    IsVisited frames sizes (ServesPinned frames group order outcome) from to
-AllocatesPinned frames sizes group order (answer.Refused NotPinned) from to =
-    IsVisited frames sizes (GivesUpBlock frames group order) from to
-AllocatesPinned frames sizes group order returned from to = ⊥
+AllocatesPinned frames group order answer.NoGroup found left from to = NoGroupBehind frames group found left from to
+AllocatesPinned frames group order (answer.Served outcome) found left from to =
+    ServesBehind frames (ServesPinned frames group order outcome) found left from to
+AllocatesPinned frames group order (answer.Refused NotPinned) found left from to =
+    ServesBehind frames (GivesUpBlock frames group order) found left from to
+AllocatesPinned frames group order returned found left from to = ⊥
 
--- What such a call does to the CPU, by its answer. Whether the CPU may have one more pin is looked at first, then the
--- order, and then the lock is tried.
-abbrev pub CallsAllocPinned : KnownTable → (sizes : Config) → (group order : ℕ) → CallAnswer → (from to : CpuInRun)
-    → Type 0
-CallsAllocPinned frames sizes group order (answer.Refused PinsFull) from to = (¬ HasPinRoom from) × (to ≡ from)
-CallsAllocPinned frames sizes group order (answer.Refused BadOrder) from to =
-    HasPinRoom from × (¬ IsBlockOrder order) × (to ≡ from)
-CallsAllocPinned frames sizes group order answer.Busy from to = MayPinBlock order from × (to ≡ from)
-CallsAllocPinned frames sizes group order returned from to =
-    MayPinBlock order from × AllocatesPinned frames sizes group order returned from to
+-- What such a call does, by its answer. Whether the CPU may have one more pin is looked at first, then the order, and then
+-- the lock is tried.
+abbrev pub CallsAllocPinned : KnownTable → (group order : ℕ) → CallAnswer → (from to : KnownHome) → Type 0
+CallsAllocPinned frames group order (answer.Refused PinsFull) from to =
+    IsSomeAnd from.cpu (λ cpu. ¬ HasPinRoom cpu) × (to ≡ from)
+CallsAllocPinned frames group order (answer.Refused BadOrder) from to =
+    IsSomeAnd from.cpu HasPinRoom × (¬ IsBlockOrder order) × (to ≡ from)
+CallsAllocPinned frames group order answer.Busy from to = IsSomeAnd from.cpu (MayPinBlock order) × (to ≡ from)
+CallsAllocPinned frames group order returned from to =
+    IsSomeAnd from.cpu (MayPinBlock order) × UnderLock (AllocatesPinned frames group order returned) from to
 
 -- a number of pages that a group has; None for no limit
 abbrev pub group_pages : GroupPages → Ledger → ℕ → Option ℕ
@@ -213,10 +212,10 @@ SaysPages ledger group which answer.NoLimit =
     (has_group ledger.groups group ≡ true) × (group_pages which ledger group ≡ None)
 SaysPages ledger group which other = ⊥
 
--- it was said of what lay behind the lock: the CPU has seen the run that led to this
-abbrev pub ReadsPages : KnownTable → (group : ℕ) → GroupPages → CallAnswer → (from to : CpuInRun) → Type 0
-ReadsPages frames group which said from to =
-    SeenBehindLock frames (λ found. SaysPages found.machine.ledger group which said) from to
+-- it was said of what lay behind the lock
+abbrev pub ReadsPages : KnownTable → (group : ℕ) → GroupPages → CallAnswer → (found left : KnownBehind)
+    (from to : CpuInRun) → Type 0
+ReadsPages frames group which said = SeesBehind frames (λ ledger. SaysPages ledger group which said)
 
 -- What a get does to the CPU, by its answer. Whether the zone has the frame is looked at first.
 abbrev pub CallsGet : KnownTable → (frame : ℕ) → CallAnswer → (from to : CpuInRun) → Type 0
@@ -235,52 +234,53 @@ CallsPut frames frame returned from to = ⊥
 
 -- what is so, if nothing was allocated under the lock for this reason
 abbrev pub IfMissing : KnownTable → (group : ℕ) → Missed → (from to : KnownHome) → Type 0
-IfMissing frames group missed.NoGroup from to = OnCpu (NoGroupBehindLock frames group) from to
+IfMissing frames group missed.NoGroup from to = UnderLock (NoGroupBehind frames group) from to
 IfMissing frames group missed.Busy from to = to ≡ from
 
 -- a frame was asked for a number that no group has
 abbrev pub MissesGroup : KnownTable → (group : ℕ) → (from to : KnownHome) → Type 0
 MissesGroup frames group from to =
     ((most_groups ≤ group) × (to ≡ from))
-    ⊎ OnCpu (Then (MissesFast group) (NoGroupBehindLock frames group)) from to
+    ⊎ Then (OnCpu (MissesFast group)) (UnderLock (NoGroupBehind frames group)) from to
 
 -- What each call does, by its answer. The CPU's past of the run grows by the steps of a fast call, then by those of a
--- visit (`IsServed.run`), and by no others of its own. Each visit finds the sizes of the zone's boot. Whether the zone has
--- the frame is looked at first: before the lock is tried, and before the CPU's pins.
+-- visit (`IsServed.run`), and by no others of its own. Each visit finds the sizes of the zone's boot, and the home shows what
+-- it found and left (`UnderLock`). Whether the zone has the frame is looked at first: before the lock is tried, and before the
+-- CPU's pins.
 abbrev pub Calls : KnownTable → Call → (from to : KnownHome) → CallAnswer → Type 0
 Calls frames (call.Visit asked) from to answer.Busy = IsOfZone frames asked × (to ≡ from)
 Calls frames (call.Visit asked) from to answer.NoFrame = (¬ IsOfZone frames asked) × (to ≡ from)
 Calls frames (call.Visit asked) from to (answer.Served outcome) =
-    OnCpu (IsVisited frames from.sizes (ServesText frames asked outcome)) from to
+    UnderLock (ServesBehind frames (ServesText frames asked outcome)) from to
 Calls frames (call.AllocFrame group) from to answer.Busy =
     (group < most_groups) × OnCpu (MissesFast group) from to
 Calls frames (call.AllocFrame group) from to answer.NoGroup = MissesGroup frames group from to
 Calls frames (call.AllocFrame group) from to (answer.Taken frame) =
     OnCpu (AllocsFast group (Got frame)) from to
 Calls frames (call.AllocFrame group) from to (answer.Served outcome) =
-    OnCpu (Then (MissesFast group) (IsVisited frames from.sizes (ServesAct frames group (act.Alloc 0) outcome)))
+    Then (OnCpu (MissesFast group)) (UnderLock (ServesBehind frames (ServesAct frames group (act.Alloc 0) outcome)))
     from to
 Calls frames (call.ForGroup group asked) from to answer.Busy = to ≡ from
 Calls frames (call.ForGroup group asked) from to answer.NoGroup =
-    OnCpu (NoGroupBehindLock frames group) from to
+    UnderLock (NoGroupBehind frames group) from to
 Calls frames (call.ForGroup group asked) from to (answer.Served outcome) =
-    OnCpu (IsVisited frames from.sizes (ServesAct frames group asked outcome)) from to
+    UnderLock (ServesBehind frames (ServesAct frames group asked outcome)) from to
 Calls frames (call.AllocPinned group order) from to returned =
-    OnCpu (CallsAllocPinned frames from.sizes group order returned) from to
+    CallsAllocPinned frames group order returned from to
 Calls frames (call.ReadPages group which) from to answer.Busy = to ≡ from
-Calls frames (call.ReadPages group which) from to said = OnCpu (ReadsPages frames group which said) from to
+Calls frames (call.ReadPages group which) from to said = UnderLock (ReadsPages frames group which said) from to
 Calls frames (call.Release frame) from to answer.Busy =
     (frame < frames.frames) × OnCpu (MissesDrop frame) from to
 Calls frames (call.Release frame) from to answer.NoFrame = (frames.frames ≤ frame) × (to ≡ from)
 Calls frames (call.Release frame) from to answer.Listed = OnCpu (DropsFast frame Listed) from to
 Calls frames (call.Release frame) from to (answer.Served outcome) =
-    OnCpu (Then (MissesDrop frame)
-    (IsVisited frames from.sizes (ServesText frames (command.Release frame) outcome))) from to
+    Then (OnCpu (MissesDrop frame)) (UnderLock (ServesBehind frames (ServesText frames (command.Release frame) outcome)))
+    from to
 Calls frames (call.Get frame) from to returned = OnCpu (CallsGet frames frame returned) from to
 Calls frames (call.Put frame) from to returned = OnCpu (CallsPut frames frame returned) from to
 Calls frames call.Settle from to answer.Busy = to ≡ from
 Calls frames call.Settle from to answer.Settled =
-    OnCpu (IsVisited frames from.sizes (SettlesCaller frames)) from to
+    UnderLock (ServesBehind frames (SettlesCaller frames)) from to
 Calls frames asked from to returned = ⊥
 
 -- a read was served, and this is the text of the file that its outcome shows
@@ -290,16 +290,14 @@ pub record ShowsText (frames : KnownTable) (asked : ReadCall) (text : List ℕ) 
   pub is_text : IsShownText after.locked.machine.ledger outcome text
 
 -- what a read of a file does under the lock, by its answer
-abbrev pub IsReadUnderLock : KnownTable → (sizes : Config) → ReadCall → (from to : CpuInRun)
-    → ReadAnswer → Type 0
-IsReadUnderLock frames sizes asked from to read.Busy = ⊥
-IsReadUnderLock frames sizes asked from to (read.Text text) =
-    IsVisited frames sizes (ShowsText frames asked text) from to
-IsReadUnderLock frames sizes asked from to (read.Refused fault) =
-    IsVisited frames sizes (ServesText frames (command.Read asked.path asked.file) (Refused fault)) from to
+abbrev pub ReadsBehind : KnownTable → ReadCall → ReadAnswer → (found left : KnownBehind) (from to : CpuInRun) → Type 0
+ReadsBehind frames asked read.Busy found left from to = ⊥
+ReadsBehind frames asked (read.Text text) found left from to =
+    ServesBehind frames (ShowsText frames asked text) found left from to
+ReadsBehind frames asked (read.Refused fault) found left from to =
+    ServesBehind frames (ServesText frames (command.Read asked.path asked.file) (Refused fault)) found left from to
 
 -- what a read of a file does, by its answer
 abbrev pub AnswersRead : KnownTable → ReadCall → (from to : KnownHome) → ReadAnswer → Type 0
 AnswersRead frames asked from to read.Busy = to ≡ from
-AnswersRead frames asked from to answer =
-    OnCpu (λ cpu left. IsReadUnderLock frames from.sizes asked cpu left answer) from to
+AnswersRead frames asked from to answer = UnderLock (ReadsBehind frames asked answer) from to

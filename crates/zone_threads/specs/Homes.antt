@@ -5,7 +5,10 @@ use Rattle.std.specs.List.{HoldsAt, swap_remove}
 use Rattle.boot_words.specs.Tables.{KnownTable}
 use Rattle.host_memory.specs.Cells.{KnownChange, KnownLoan}
 use Rattle.zone_blocks.specs.declared.config.Config.{Config}
-use Rattle.mem_system.specs.{CpuInRun, PutsAndEnds, KnownLocked}
+use Rattle.boot_words.specs.{Meets}
+use Rattle.group_charge.specs.Charges.{Ledger}
+use Rattle.mem_machine.specs.{with_past}
+use Rattle.mem_system.specs.{CpuInRun, IsSound, KnownLocked, LockedState, PutsAndEnds, locked_state}
 use Rattle.mem_system.specs.declared.end_with_pins.SystemEnd.{SystemEnd}
 use Rattle.zone_threads.specs.declared.home.NotEntered.{NotEntered}
 use Rattle.zone_threads.specs.declared.home.NotEntered.TheVariants as not_entered
@@ -34,7 +37,7 @@ abbrev pub LockedChange : Type 0
 LockedChange = KnownChange (Box KnownBehind)
 
 -- What a thread has of a zone: a CPU, if it took one, and the sizes of the zone's boot. `change` is what the thread took out
--- from behind the lock, and what it put back, as it last took or returned a CPU.
+-- from behind the lock, and what it put back, in its last call that took the lock.
 pub record KnownHome : Type 0 where
   pub cpu : Option CpuInRun
   pub sizes : Config
@@ -65,6 +68,45 @@ pub record OnCpu (does : (from to : CpuInRun) → Type 0) (before after : KnownH
   pub was : before.cpu ≡ Some from
   pub is : after.cpu ≡ Some to
   pub done : does from to
+
+-- A CPU was served with what lay behind the lock: `Does` leads from what was found to what was left, which are sound. The
+-- parked CPUs stay.
+pub record ServesBehind (table : KnownTable) (Does : (before after : LockedState) → Type 0) (found left : KnownBehind)
+    (from to : CpuInRun) : Type 0 where
+  pub sound_before : IsSound table found.locked
+  pub served : Does (locked_state found.locked from) (locked_state left.locked to)
+  pub sound_after : IsSound table left.locked
+  pub parked : KeepsParked found left
+
+-- `IsSo` holds of the groups' accounts behind the lock. The CPU made no step: it and the zone have now seen the same run, and
+-- all else stays.
+pub record SeesBehind (table : KnownTable) (IsSo : Ledger → Type 0) (found left : KnownBehind) (from to : CpuInRun)
+    : Type 0 where
+  pub so : IsSo found.locked.machine.ledger
+  pub left_is : left ≡ record found {
+    locked = record found.locked { machine = with_past found.locked.machine left.locked.machine.run.past };
+  }
+  pub sound : IsSound table left.locked
+  pub part : to.part ≡ from.part
+  pub last : to.last ≡ from.last
+  pub meets : Meets table found.locked.machine.run.past from.past left.locked.machine.run.past to.past
+
+-- There is a CPU before and after, and the home shows what was taken out from behind the lock, where it has the zone's sizes,
+-- and what was put back: `Does` leads from one to the other.
+pub record UnderLock (Does : (found left : KnownBehind) (from to : CpuInRun) → Type 0) (before after : KnownHome)
+    : Type 0 where
+  pub from : CpuInRun
+  pub to : CpuInRun
+  pub sizes : after.sizes ≡ before.sizes
+  pub was : before.cpu ≡ Some from
+  pub is : after.cpu ≡ Some to
+  pub change : LockedChange
+  pub change_is : after.change ≡ Some change
+  pub taken : Box KnownBehind
+  pub left : Box KnownBehind
+  pub taken_is : IsTaken before.sizes change.found taken
+  pub left_is : change.left ≡ Some left
+  pub done : Does taken.value left.value from to
 
 -- the zone has a CPU of this number
 pub record IsCpu (cpus number : ℕ) : Type 0 where
@@ -104,12 +146,26 @@ pub record MissesCpu (cpus number : ℕ) (before after : KnownHome) : Type 0 whe
   pub is_cpu : IsCpu cpus number
   pub stays : after ≡ before
 
+-- The home had no CPU, the zone has one of this number, and its part isn't parked: what was taken out from behind the lock was
+-- put back.
+pub record FindsCpuOut (cpus number : ℕ) (before after : KnownHome) : Type 0 where
+  pub none : HasNoCpu before
+  pub is_cpu : IsCpu cpus number
+  pub change : LockedChange
+  pub shows : after ≡ record before { change = Some change }
+  pub found : Box KnownBehind
+  pub left : Box KnownBehind
+  pub found_is : change.found ≡ Some found
+  pub left_is : change.left ≡ Some left
+  pub out : IsNotParked number found.value
+  pub stays : left.value ≡ found.value
+
 -- What is so, if no CPU was taken. It is looked at first whether the home has a CPU, and then whether the zone has the one
 -- of this number.
 abbrev pub IfNotEntered : (cpus number : ℕ) → (before : KnownHome) → NotEntered → (after : KnownHome) → Type 0
 IfNotEntered cpus number before not_entered.NoCpu after =
     HasNoCpu before × (¬ IsCpu cpus number) × (after ≡ before)
-IfNotEntered cpus number before not_entered.Out after = MissesCpu cpus number before after
+IfNotEntered cpus number before not_entered.Out after = FindsCpuOut cpus number before after
 IfNotEntered cpus number before not_entered.HasCpu after = HasCpu before × (after ≡ before)
 IfNotEntered cpus number before not_entered.Busy after = MissesCpu cpus number before after
 

@@ -4,8 +4,8 @@ use Rattle.group_tree.specs.Groups.{number_at}
 use Rattle.boot_words.specs.Tables.{KnownTable}
 use Rattle.machine_texts.specs.{blocks_text, show_text, stock_line_text}
 use Rattle.mem_machine.specs.Machines.{KnownMachine}
-use Rattle.mem_system.specs.{ReadsAfterSettling, UnitsAt, LockedState}
-use Rattle.zone_threads.specs.Homes.{KnownHome, OnCpu}
+use Rattle.mem_system.specs.{IsSound, KnownLocked, LockedState, SettlesCaller, UnitsAt, locked_state}
+use Rattle.zone_threads.specs.Homes.{KnownHome, ServesBehind, UnderLock}
 use Rattle.zone_threads.specs.declared.texts.TextAnswer.{TextAnswer}
 use Rattle.zone_threads.specs.declared.texts.TextAnswer.TheVariants as answer
 use Rattle.zone_threads.specs.declared.texts.TextCall.{TextCall}
@@ -38,7 +38,15 @@ SaysText table (call.Units path) answer settled machine = SaysUnits table path.i
 SaysText table asked answer.NoMemory settled machine = Unit {0}
 SaysText table asked other settled machine = ⊥
 
+-- The CPU was settled, which left a sound value behind the lock. `Says` holds of the settled state and of the machine that was
+-- left, since the text of units looks at words.
+pub record SettlesAndSays (table : KnownTable) (Says : LockedState → KnownMachine → Type 0) (before after : LockedState)
+    : Type 0 where
+  pub settled : KnownLocked
+  pub settles : SettlesCaller table before (locked_state settled after.cpu)
+  pub sound : IsSound table settled
+  pub says : Says (locked_state settled after.cpu) after.locked.machine
+
 -- what is done for a text
 abbrev pub ReadsText : KnownTable → TextCall → TextAnswer → (from to : KnownHome) → Type 0
-ReadsText frames asked answer from to =
-    OnCpu (ReadsAfterSettling frames (SaysText frames asked answer)) from to
+ReadsText frames asked answer = UnderLock (ServesBehind frames (SettlesAndSays frames (SaysText frames asked answer)))

@@ -3,6 +3,7 @@
 ghost use Rattle.std.specs.Prelude.{◌<◌, IfNone, IfSome, IsSome, MatchBool};
 ghost use Rattle.cpu_part.specs.declared.answers.Dropped.TheVariants.{Listed};
 ghost use Rattle.cpu_part.specs.declared.answers.Fast.TheVariants.{Got};
+ghost use Rattle.group_tree.specs.{most_groups};
 ghost use Rattle.zone_threads.specs.Calling.{AllocsFast, Calls, CallsGet, CallsPut, DropsFast, MissesDrop, MissesFast};
 ghost use Rattle.zone_threads.specs.declared.calls.Call.TheVariants as call;
 
@@ -12,6 +13,7 @@ use crate::served::Missed;
 use cpu_part::{BootName, Dropped, Fast, Tables};
 use frame_word::Frame;
 use group_tree::fault::Fault;
+use group_tree::group::MAX_GROUPS;
 use mem_system::{Cpu, TextCommand};
 
 impl<N: BootName> Home<N> {
@@ -21,7 +23,7 @@ impl<N: BootName> Home<N> {
         requires some { IsSome self.old.cpu }
         ensures { Calls N.table (call.AllocFrame group) self.old self.new result }
     {
-        if group >= 64 {
+        if group >= MAX_GROUPS as u32 {
             return CallAnswer::NoGroup;
         }
         let zone = &*self.zone;
@@ -88,7 +90,7 @@ impl<N: BootName> Home<N> {
 // Takes a frame of the CPU's list, paid from its stock; `None` if one of them has none.
 #[inline(always)]
 fn take_listed<N: BootName>(tables: &Tables<N>, cpu: &mut Cpu<N>, group: u32) -> Option<Frame>
-    requires group { group < 64 }
+    requires group { group < most_groups }
     ensures taken { IfSome result (λ frame. AllocsFast group (Got frame) cpu.old cpu.new) }
     ensures missed { IfNone result (MissesFast group cpu.old cpu.new) }
 {

@@ -19,7 +19,7 @@ use std::sync::Arc;
 pub struct Home<N: BootName> {
     pub(crate) zone: Arc<Zone<N>, Global>,
     pub(crate) cpu: Option<Cpu<N>>,
-    // Shows what was found behind the lock, and what was left there, as a CPU was last taken or returned.
+    // Shows what was found behind the lock, and what was left there, in the last call that took it.
     pub(crate) change: Option<PutBack<Box<Behind<N>, Global>>>,
 }
 

@@ -3,11 +3,11 @@
 ghost use Rattle.std.specs.Prelude.{◌≡◌, ◌<◌, IfNone, IfSome, IsTrue, MatchBool};
 ghost use Rattle.frame_word.specs.declared.answers.Get.TheVariants.{Held};
 ghost use Rattle.group_tree.specs.Groups.{has_group};
-ghost use Rattle.mem_system.specs.{IsOfZone, SettlesCaller, IsVisited, ServesText, locked_state};
-ghost use Rattle.zone_threads.specs.Calling.{NoGroupBehindLock, IsReadUnderLock, ServesAct};
+ghost use Rattle.mem_system.specs.{IsOfZone, SettlesCaller, ServesText, locked_state};
+ghost use Rattle.zone_threads.specs.Calling.{NoGroupBehind, ReadsBehind, ServesAct};
 ghost use Rattle.zone_threads.specs.Calling.{AllocatesPinned, HasPinRoom, MayPinBlock, MissesPin, Pins};
 ghost use Rattle.zone_threads.specs.Calling.{ReadsPages, SaysPages};
-ghost use Rattle.zone_threads.specs.Homes.{KeepsParked};
+ghost use Rattle.zone_threads.specs.Homes.{ServesBehind};
 
 use crate::behind::Behind;
 use crate::calls::{CallAnswer, GroupAct, GroupPages, ReadAnswer, ReadCall};
@@ -42,9 +42,7 @@ impl<N: BootName> Behind<N> {
         command: &TextCommand<'_>,
     ) -> Outcome
         requires { IsOfZone N.table command.now }
-        ensures served { IsVisited N.table self.old.locked.sizes (ServesText N.table command.now result)
-            cpu.old cpu.new }
-        ensures parked { KeepsParked self.old self.new }
+        ensures { ServesBehind N.table (ServesText N.table command.now result) self.old self.new cpu.old cpu.new }
     {
         self.locked.prove_quiet();
         let outcome = serve_text(&mut self.locked, tables, cpu, command);
@@ -62,10 +60,8 @@ impl<N: BootName> Behind<N> {
         act: GroupAct,
     ) -> Option<Outcome>
         ensures served { IfSome result (λ outcome.
-            IsVisited N.table self.old.locked.sizes (ServesAct N.table group act outcome)
-            cpu.old cpu.new) }
-        ensures none { IfNone result (NoGroupBehindLock N.table group cpu.old cpu.new) }
-        ensures parked { KeepsParked self.old self.new }
+            ServesBehind N.table (ServesAct N.table group act outcome) self.old self.new cpu.old cpu.new) }
+        ensures none { IfNone result (NoGroupBehind N.table group self.old self.new cpu.old cpu.new) }
     {
         self.locked.prove_quiet();
         let Some(group) = find_group(self.locked.charges(), group) else {
@@ -88,8 +84,7 @@ impl<N: BootName> Behind<N> {
         order: u32,
     ) -> CallAnswer
         requires { MayPinBlock order cpu.old }
-        ensures allocates { AllocatesPinned N.table self.old.locked.sizes group order result cpu.old cpu.new }
-        ensures parked { KeepsParked self.old self.new }
+        ensures { AllocatesPinned N.table group order result self.old self.new cpu.old cpu.new }
     {
         self.locked.prove_quiet();
         let Some(group) = find_group(self.locked.charges(), group) else {
@@ -120,9 +115,7 @@ impl<N: BootName> Behind<N> {
         group: u32,
         which: GroupPages,
     ) -> CallAnswer
-        ensures says { SaysPages self.old.locked.machine.ledger group which result }
-        ensures reads { ReadsPages N.table group which result cpu.old cpu.new }
-        ensures parked { KeepsParked self.old self.new }
+        ensures { ReadsPages N.table group which result self.old self.new cpu.old cpu.new }
     {
         self.locked.prove_quiet();
         let answer = pages_read(self.locked.charges(), group, which);
@@ -134,8 +127,7 @@ impl<N: BootName> Behind<N> {
     /// Settles a CPU.
     #[inline(always)]
     pub fn settle(&mut self, tables: &Tables<N>, cpu: &mut Cpu<N>)
-        ensures settles { IsVisited N.table self.old.locked.sizes (SettlesCaller N.table) cpu.old cpu.new }
-        ensures parked { KeepsParked self.old self.new }
+        ensures { ServesBehind N.table (SettlesCaller N.table) self.old self.new cpu.old cpu.new }
     {
         self.locked.prove_quiet();
         serve_settle(&mut self.locked, tables, cpu);
@@ -144,8 +136,7 @@ impl<N: BootName> Behind<N> {
 
     /// Reads a file of a group, with its text.
     pub fn read(&mut self, tables: &Tables<N>, cpu: &mut Cpu<N>, asked: &ReadCall<'_>) -> ReadAnswer
-        ensures reads { IsReadUnderLock N.table self.old.locked.sizes asked.now cpu.old cpu.new result }
-        ensures parked { KeepsParked self.old self.new }
+        ensures { ReadsBehind N.table asked.now result self.old self.new cpu.old cpu.new }
     {
         let ReadCall { path, file } = *asked;
         self.locked.prove_quiet();

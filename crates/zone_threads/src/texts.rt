@@ -1,8 +1,7 @@
 //! The texts that a settled CPU gets of the zone.
 
-ghost use Rattle.mem_system.specs.Shown.{ReadsAfterSettling};
-ghost use Rattle.zone_threads.specs.Homes.{KeepsParked};
-ghost use Rattle.zone_threads.specs.Shown.{SaysText, SaysUnits};
+ghost use Rattle.zone_threads.specs.Homes.{ServesBehind};
+ghost use Rattle.zone_threads.specs.Shown.{SaysText, SaysUnits, SettlesAndSays};
 ghost use Rattle.zone_threads.specs.declared.texts.TextCall.TheVariants.{Blocks, Show, Stock};
 
 use crate::behind::Behind;
@@ -43,8 +42,8 @@ impl<N: BootName> Behind<N> {
         cpu: &mut Cpu<N>,
         asked: TextCall,
     ) -> TextAnswer
-        ensures says { ReadsAfterSettling N.table (SaysText N.table asked result) cpu.old cpu.new }
-        ensures parked { KeepsParked self.old self.new }
+        ensures { ServesBehind N.table (SettlesAndSays N.table (SaysText N.table asked result)) self.old self.new
+            cpu.old cpu.new }
     {
         match asked {
             TextCall::Show => self.show(alloc, tables, cpu),
@@ -55,8 +54,8 @@ impl<N: BootName> Behind<N> {
     }
 
     fn show(&mut self, alloc: Global, tables: &Tables<N>, cpu: &mut Cpu<N>) -> TextAnswer
-        ensures says { ReadsAfterSettling N.table (SaysText N.table Show result) cpu.old cpu.new }
-        ensures parked { KeepsParked self.old self.new }
+        ensures { ServesBehind N.table (SettlesAndSays N.table (SaysText N.table Show result)) self.old self.new
+            cpu.old cpu.new }
     {
         self.locked.prove_quiet();
         let shown = show_text(alloc, &mut self.locked, tables, cpu);
@@ -68,8 +67,8 @@ impl<N: BootName> Behind<N> {
     }
 
     fn blocks(&mut self, alloc: Global, tables: &Tables<N>, cpu: &mut Cpu<N>) -> TextAnswer
-        ensures says { ReadsAfterSettling N.table (SaysText N.table Blocks result) cpu.old cpu.new }
-        ensures parked { KeepsParked self.old self.new }
+        ensures { ServesBehind N.table (SettlesAndSays N.table (SaysText N.table Blocks result)) self.old self.new
+            cpu.old cpu.new }
     {
         self.locked.prove_quiet();
         let shown = blocks_text(alloc, &mut self.locked, tables, cpu);
@@ -81,8 +80,8 @@ impl<N: BootName> Behind<N> {
     }
 
     fn stock(&mut self, alloc: Global, tables: &Tables<N>, cpu: &mut Cpu<N>) -> TextAnswer
-        ensures says { ReadsAfterSettling N.table (SaysText N.table Stock result) cpu.old cpu.new }
-        ensures parked { KeepsParked self.old self.new }
+        ensures { ServesBehind N.table (SettlesAndSays N.table (SaysText N.table Stock result)) self.old self.new
+            cpu.old cpu.new }
     {
         self.locked.prove_quiet();
         serve_settle(&mut self.locked, tables, cpu);
@@ -102,8 +101,8 @@ impl<N: BootName> Behind<N> {
         cpu: &mut Cpu<N>,
         path: &[u8],
     ) -> TextAnswer
-        ensures says { ReadsAfterSettling N.table (SaysUnits N.table path.now result) cpu.old cpu.new }
-        ensures parked { KeepsParked self.old self.new }
+        ensures { ServesBehind N.table (SettlesAndSays N.table (SaysUnits N.table path.now result)) self.old self.new
+            cpu.old cpu.new }
     {
         self.locked.prove_quiet();
         serve_settle(&mut self.locked, tables, cpu);

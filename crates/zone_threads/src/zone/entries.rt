@@ -31,12 +31,12 @@ impl<N: BootName> Home<N> {
         };
         let found = behind.unpark(number);
         let change = zone.lock.put_back(behind, loan);
+        self.change = Some(change);
         let Some(cpu) = found else {
             return Err(NotEntered::Out);
         };
         let old = std::mem::replace(&mut self.cpu, Some(cpu));
         let None = old else { unreachable!() };
-        self.change = Some(change);
         Ok(())
     }
 

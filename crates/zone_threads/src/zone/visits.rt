@@ -1,9 +1,9 @@
 //! The calls that are served under the lock.
 
 ghost use Rattle.std.specs.Prelude.{◌≡◌, ◌↔◌, IfNone, IfSome, IsSome, IsTrue, MatchResult};
-ghost use Rattle.mem_system.specs.{IsOfZone, NamesFrameBelow, IsVisited, ServesText};
+ghost use Rattle.mem_system.specs.{IsOfZone, NamesFrameBelow, ServesText};
 ghost use Rattle.zone_threads.specs.Calling.{Calls, IfMissing, AnswersRead, ServesAct};
-ghost use Rattle.zone_threads.specs.Homes.{OnCpu};
+ghost use Rattle.zone_threads.specs.Homes.{ServesBehind, UnderLock};
 ghost use Rattle.zone_threads.specs.Shown.{ReadsText};
 ghost use Rattle.zone_threads.specs.declared.calls.Call.TheVariants.{AllocPinned, ForGroup, ReadPages, Settle, Visit};
 
@@ -64,7 +64,7 @@ impl<N: BootName> Home<N> {
             return CallAnswer::Busy;
         };
         let answer = behind.alloc_pinned(&zone.tables, cpu, group, order);
-        zone.lock.put_back(behind, loan);
+        self.change = Some(zone.lock.put_back(behind, loan));
         answer
     }
 
@@ -81,7 +81,7 @@ impl<N: BootName> Home<N> {
             return CallAnswer::Busy;
         };
         let answer = behind.read_pages(&zone.tables, cpu, group, which);
-        zone.lock.put_back(behind, loan);
+        self.change = Some(zone.lock.put_back(behind, loan));
         answer
     }
 
@@ -98,7 +98,7 @@ impl<N: BootName> Home<N> {
             return CallAnswer::Busy;
         };
         behind.settle(&zone.tables, cpu);
-        zone.lock.put_back(behind, loan);
+        self.change = Some(zone.lock.put_back(behind, loan));
         CallAnswer::Settled
     }
 
@@ -115,7 +115,7 @@ impl<N: BootName> Home<N> {
             return ReadAnswer::Busy;
         };
         let answer = behind.read(&zone.tables, cpu, asked);
-        zone.lock.put_back(behind, loan);
+        self.change = Some(zone.lock.put_back(behind, loan));
         answer
     }
 
@@ -129,9 +129,9 @@ impl<N: BootName> Home<N> {
         let Some(cpu) = &mut self.cpu else {
             unreachable!()
         };
-        let (mut behind, loan) = zone.lock.take()?;
+        let (mut behind, loan) = zone.take()?;
         let answer = behind.text(alloc, &zone.tables, cpu, asked);
-        zone.lock.put_back(behind, loan);
+        self.change = Some(zone.lock.put_back(behind, loan));
         Some(answer)
     }
 
@@ -140,8 +140,7 @@ impl<N: BootName> Home<N> {
         requires some { IsSome self.old.cpu }
         requires of_zone { IsOfZone N.table command.now }
         ensures served { IfSome result (λ outcome.
-            OnCpu (IsVisited N.table self.old.sizes (ServesText N.table command.now outcome))
-            self.old self.new) }
+            UnderLock (ServesBehind N.table (ServesText N.table command.now outcome)) self.old self.new) }
         ensures busy { IfNone result (self.new ≡ self.old) }
     {
         let zone = &*self.zone;
@@ -150,7 +149,7 @@ impl<N: BootName> Home<N> {
         };
         let (mut behind, loan) = zone.take()?;
         let outcome = behind.serve(&zone.tables, cpu, command);
-        zone.lock.put_back(behind, loan);
+        self.change = Some(zone.lock.put_back(behind, loan));
         Some(outcome)
     }
 
@@ -159,8 +158,7 @@ impl<N: BootName> Home<N> {
     pub(crate) fn serve_act(&mut self, group: u32, act: GroupAct) -> Result<Outcome, Missed>
         requires some { IsSome self.old.cpu }
         ensures { MatchResult result
-            (λ outcome. OnCpu (IsVisited N.table self.old.sizes (ServesAct N.table group act outcome))
-            self.old self.new)
+            (λ outcome. UnderLock (ServesBehind N.table (ServesAct N.table group act outcome)) self.old self.new)
             (λ missed. IfMissing N.table group missed self.old self.new) }
     {
         let zone = &*self.zone;
@@ -171,7 +169,7 @@ impl<N: BootName> Home<N> {
             return Err(Missed::Busy);
         };
         let served = behind.serve_act(&zone.tables, cpu, group, act);
-        zone.lock.put_back(behind, loan);
+        self.change = Some(zone.lock.put_back(behind, loan));
         let Some(outcome) = served else {
             return Err(Missed::NoGroup);
         };

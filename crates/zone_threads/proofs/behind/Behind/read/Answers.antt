@@ -1,40 +1,30 @@
 -- Serves `read`: the text is what the charges after the visit give for the outcome.
-use Rattle.std.proofs.Common.{◌≡◌, ◌∙◌, ap, sym, subst}
-use Rattle.zone_blocks.specs.declared.config.Config.{Config}
+use Rattle.std.proofs.Common.{◌∙◌, ap, sym, subst}
 use Rattle.group_charge.specs.Charges.{Ledger}
-use Rattle.boot_words.specs.Tables.{KnownTable}
-use Rattle.mem_system.specs.Cpus.{CpuInRun}
 use Rattle.mem_system.specs.Outcomes.{shown_text}
 use Rattle.mem_system.specs.declared.text_command.TextCommand.TheVariants as cmd
 use Rattle.mem_system.specs.declared.outcome.Outcome.{Outcome}
 use Rattle.mem_system.specs.declared.outcome.Outcome.TheVariants as outcome
-use Rattle.mem_system.specs.{HasItsGroups, IsShownText, IsSound, IsVisited, KnownLocked, LockedState, ServesText, locked_state}
-use Rattle.zone_threads.specs.{KnownBehind, ShowsText}
+use Rattle.mem_system.specs.{HasItsGroups, IsShownText, ServesText, locked_state}
+use Rattle.zone_threads.specs.{ShowsText}
+use Rattle.zone_threads.proofs.Visited.{serves_behind}
 use Rattle.zone_threads.proofs.behind.Behind.read.Goals as goal
 
--- what was served between two looks that found all sound
-visited : (t : KnownTable) (sizes : Config) (Served : LockedState → LockedState → Type 0) (l m : KnownLocked) (from to : CpuInRun)
-    → l.sizes ≡ sizes → IsSound t l → Served (locked_state l from) (locked_state m to) → IsSound t m → IsVisited t sizes Served from to
-visited t sizes Served l m from to sized before served after =
-    record { found = l; left = m; sizes_are = sized; sound_before = before; served = served; sound_after = after }
-
-pub returns-in-Refused-clause-reads : goal.returns-in-Refused-clause-reads
-returns-in-Refused-clause-reads g c =
+pub returns-in-Refused : goal.returns-in-Refused
+returns-in-Refused g c =
     let t = g.N.BootName.table in
     let asked = cmd.Read c.args.asked.now.path c.args.asked.now.file in
     let read = c.serve_text-outcome in
-    visited t c.args.self.now.locked.sizes (ServesText t asked (outcome.Refused c.in-Refused.fault)) c.self.inside.locked read.new.locked c.args.cpu.now read.new.cpu
-    (ap (λ (b : KnownBehind). b.locked.sizes) c.self.view_is)
+    serves_behind t (ServesText t asked (outcome.Refused c.in-Refused.fault)) _ _ _ _ _ c.self.view_is
     (record { quiet = c.prove_quiet.ensures.quiet; consistent = c.prove_quiet.ensures.consistent; charges = c.prove_quiet.ensures.charges })
     (subst (λ (o : Outcome). ServesText t asked o (locked_state c.self.inside.locked c.args.cpu.now) (locked_state read.new.locked read.new.cpu)) c.in-Refused.is read.ensures.served)
     (record { quiet = c.prove_quiet-2.ensures.quiet; consistent = c.prove_quiet-2.ensures.consistent; charges = c.prove_quiet-2.ensures.charges })
 
-pub returns-in-Stat-clause-reads : goal.returns-in-Stat-clause-reads
-returns-in-Stat-clause-reads g c =
+pub returns-in-Stat : goal.returns-in-Stat
+returns-in-Stat g c =
     let t = g.N.BootName.table in
     let read = c.serve_text-outcome in
-    visited t c.args.self.now.locked.sizes (ShowsText t c.args.asked.now c.stat_text.result) c.self.inside.locked read.new.locked c.args.cpu.now read.new.cpu
-    (ap (λ (b : KnownBehind). b.locked.sizes) c.self.view_is)
+    serves_behind t (ShowsText t c.args.asked.now c.stat_text.result) _ _ _ _ _ c.self.view_is
     (record { quiet = c.prove_quiet.ensures.quiet; consistent = c.prove_quiet.ensures.consistent; charges = c.prove_quiet.ensures.charges })
     (record {
       outcome = read.result;
@@ -49,14 +39,13 @@ shown_text-requires g c =
     subst (λ (l : Ledger). HasItsGroups l (outcome.Text c.in-Text.group c.in-Text.file)) (sym c.charges.ensures)
     (subst (HasItsGroups read.new.locked.machine.ledger) c.in-Text.is read.ensures.groups)
 
-pub returns-clause-reads : goal.returns-clause-reads
-returns-clause-reads g c =
+pub returns : goal.returns
+returns g c =
     let t = g.N.BootName.table in
     let read = c.serve_text-outcome in
     let text = c.shown_text.result in
     let is = c.shown_text.ensures ∙ ap (λ (l : Ledger). shown_text l c.in-Text.group c.in-Text.file) c.charges.ensures in
-    visited t c.args.self.now.locked.sizes (ShowsText t c.args.asked.now text) c.self.inside.locked read.new.locked c.args.cpu.now read.new.cpu
-    (ap (λ (b : KnownBehind). b.locked.sizes) c.self.view_is)
+    serves_behind t (ShowsText t c.args.asked.now text) _ _ _ _ _ c.self.view_is
     (record { quiet = c.prove_quiet.ensures.quiet; consistent = c.prove_quiet.ensures.consistent; charges = c.prove_quiet.ensures.charges })
     (record {
       outcome = read.result;

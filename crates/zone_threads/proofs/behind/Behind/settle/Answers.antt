@@ -1,13 +1,10 @@
-use Rattle.std.proofs.Common.{ap}
-use Rattle.zone_threads.specs.Homes.{KnownBehind}
+use Rattle.mem_system.specs.{SettlesCaller}
+use Rattle.zone_threads.proofs.Visited.{serves_behind}
 use Rattle.zone_threads.proofs.behind.Behind.settle.Goals as goal
 
-pub returns-clause-settles : goal.returns-clause-settles
-returns-clause-settles g c = record {
-  found = c.self.inside.locked;
-  left = c.serve_settle.new.locked;
-  sizes_are = ap (λ (b : KnownBehind). b.locked.sizes) c.self.view_is;
-  sound_before = record { quiet = c.prove_quiet.ensures.quiet; consistent = c.prove_quiet.ensures.consistent; charges = c.prove_quiet.ensures.charges };
-  served = c.serve_settle.ensures.served;
-  sound_after = record { quiet = c.prove_quiet-2.ensures.quiet; consistent = c.prove_quiet-2.ensures.consistent; charges = c.prove_quiet-2.ensures.charges };
-}
+pub returns : goal.returns
+returns g c =
+    serves_behind g.N.BootName.table (SettlesCaller g.N.BootName.table) _ _ _ _ _ c.self.view_is
+    (record { quiet = c.prove_quiet.ensures.quiet; consistent = c.prove_quiet.ensures.consistent; charges = c.prove_quiet.ensures.charges })
+    c.serve_settle.ensures.served
+    (record { quiet = c.prove_quiet-2.ensures.quiet; consistent = c.prove_quiet-2.ensures.consistent; charges = c.prove_quiet-2.ensures.charges })

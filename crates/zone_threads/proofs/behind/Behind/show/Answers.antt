@@ -1,26 +1,28 @@
 use Rattle.std.proofs.Common.{refl}
+use Rattle.mem_system.specs.{IsSound}
+use Rattle.zone_threads.specs.Shown.{SaysText, SettlesAndSays}
+use Rattle.zone_threads.specs.declared.texts.TextAnswer.TheVariants as answer
+use Rattle.zone_threads.specs.declared.texts.TextCall.TheVariants.{Show}
+use Rattle.zone_threads.proofs.Visited.{serves_behind}
 use Rattle.zone_threads.proofs.behind.Behind.show.Goals as goal
 
-pub returns-in_default-clause-says : goal.returns-in_default-clause-says
-returns-in_default-clause-says g c = record {
-  found = c.self.inside.locked;
-  settled = c.show_text-shown.new.locked;
-  left = c.show_text-shown.new.locked;
-  sound_before = record { quiet = c.prove_quiet.ensures.quiet; consistent = c.prove_quiet.ensures.consistent; charges = c.prove_quiet.ensures.charges };
-  settles = c.show_text-shown.ensures.served;
-  sound_settled = record { quiet = c.prove_quiet-2.ensures.quiet; consistent = c.prove_quiet-2.ensures.consistent; charges = c.prove_quiet-2.ensures.charges };
-  sound_after = record { quiet = c.prove_quiet-2.ensures.quiet; consistent = c.prove_quiet-2.ensures.consistent; charges = c.prove_quiet-2.ensures.charges };
-  told = tt;
-}
+pub returns-in_default : goal.returns-in_default
+returns-in_default g c =
+    let t = g.N.BootName.table in
+    let sound : IsSound t c.show_text-shown.new.locked = record { quiet = c.prove_quiet-2.ensures.quiet; consistent = c.prove_quiet-2.ensures.consistent; charges = c.prove_quiet-2.ensures.charges } in
+    serves_behind t (SettlesAndSays t (SaysText t Show answer.NoMemory)) _ _ _ _ _ c.self.view_is
+    (record { quiet = c.prove_quiet.ensures.quiet; consistent = c.prove_quiet.ensures.consistent; charges = c.prove_quiet.ensures.charges })
+    (record { settled = c.show_text-shown.new.locked; settles = c.show_text-shown.ensures.served; sound = sound; says = tt }) sound
 
-pub returns-clause-says : goal.returns-clause-says
-returns-clause-says g c = record {
-  found = c.self.inside.locked;
-  settled = c.show_text-shown.new.locked;
-  left = c.show_text-shown.new.locked;
-  sound_before = record { quiet = c.prove_quiet.ensures.quiet; consistent = c.prove_quiet.ensures.consistent; charges = c.prove_quiet.ensures.charges };
-  settles = c.show_text-shown.ensures.served;
-  sound_settled = record { quiet = c.prove_quiet-2.ensures.quiet; consistent = c.prove_quiet-2.ensures.consistent; charges = c.prove_quiet-2.ensures.charges };
-  sound_after = record { quiet = c.prove_quiet-2.ensures.quiet; consistent = c.prove_quiet-2.ensures.consistent; charges = c.prove_quiet-2.ensures.charges };
-  told = record { text_is = c.in-Ok.ensures.text; stays = refl };
-}
+pub returns : goal.returns
+returns g c =
+    let t = g.N.BootName.table in
+    let sound : IsSound t c.show_text-shown.new.locked = record { quiet = c.prove_quiet-2.ensures.quiet; consistent = c.prove_quiet-2.ensures.consistent; charges = c.prove_quiet-2.ensures.charges } in
+    serves_behind t (SettlesAndSays t (SaysText t Show (answer.Text c.in-Ok.text))) _ _ _ _ _ c.self.view_is
+    (record { quiet = c.prove_quiet.ensures.quiet; consistent = c.prove_quiet.ensures.consistent; charges = c.prove_quiet.ensures.charges })
+    (record {
+      settled = c.show_text-shown.new.locked;
+      settles = c.show_text-shown.ensures.served;
+      sound = sound;
+      says = record { text_is = c.in-Ok.ensures.text; stays = refl };
+    }) sound

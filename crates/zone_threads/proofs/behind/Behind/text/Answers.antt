@@ -1,27 +1,35 @@
 use Rattle.std.proofs.Common.{ℕ, List, subst, sym}
-use Rattle.mem_system.specs.Shown.{ReadsAfterSettling}
-use Rattle.zone_threads.specs.Shown.{SaysText, SaysUnits}
+use Rattle.zone_threads.specs.{ServesBehind}
+use Rattle.zone_threads.specs.Shown.{SaysText, SaysUnits, SettlesAndSays}
 use Rattle.zone_threads.specs.declared.texts.TextCall.{TextCall}
 use Rattle.zone_threads.proofs.behind.Behind.text.Goals as goal
 
-pub returns-in-Show-clause-says : goal.returns-in-Show-clause-says
-returns-in-Show-clause-says g c =
+pub returns-in-Show : goal.returns-in-Show
+returns-in-Show g c =
     let t = g.N.BootName.table in
-    subst (λ (asked : TextCall). ReadsAfterSettling t (SaysText t asked c.show.result) c.args.cpu.now c.show.new.cpu) (sym c.in-Show.is) c.show.ensures.says
+    let says = c.show in
+    subst (λ (asked : TextCall). ServesBehind t (SettlesAndSays t (SaysText t asked says.result)) c.args.self.now says.new.self c.args.cpu.now says.new.cpu)
+    (sym c.in-Show.is) says.ensures
 
-pub returns-in-Blocks-clause-says : goal.returns-in-Blocks-clause-says
-returns-in-Blocks-clause-says g c =
+pub returns-in-Blocks : goal.returns-in-Blocks
+returns-in-Blocks g c =
     let t = g.N.BootName.table in
-    let blocks = c.blocks-in-Blocks in
-    subst (λ (asked : TextCall). ReadsAfterSettling t (SaysText t asked blocks.result) c.args.cpu.now blocks.new.cpu) (sym c.in-Blocks.is) blocks.ensures.says
+    let says = c.blocks-in-Blocks in
+    subst (λ (asked : TextCall). ServesBehind t (SettlesAndSays t (SaysText t asked says.result)) c.args.self.now says.new.self c.args.cpu.now says.new.cpu)
+    (sym c.in-Blocks.is) says.ensures
 
-pub returns-in-Stock-clause-says : goal.returns-in-Stock-clause-says
-returns-in-Stock-clause-says g c =
+pub returns-in-Stock : goal.returns-in-Stock
+returns-in-Stock g c =
     let t = g.N.BootName.table in
-    subst (λ (asked : TextCall). ReadsAfterSettling t (SaysText t asked c.stock.result) c.args.cpu.now c.stock.new.cpu) (sym c.in-Stock.is) c.stock.ensures.says
+    let says = c.stock in
+    subst (λ (asked : TextCall). ServesBehind t (SettlesAndSays t (SaysText t asked says.result)) c.args.self.now says.new.self c.args.cpu.now says.new.cpu)
+    (sym c.in-Stock.is) says.ensures
 
-pub returns-in-Units-clause-says : goal.returns-in-Units-clause-says
-returns-in-Units-clause-says g c =
+pub returns-in-Units : goal.returns-in-Units
+returns-in-Units g c =
     let t = g.N.BootName.table in
-    subst (λ (asked : TextCall). ReadsAfterSettling t (SaysText t asked c.units.result) c.args.cpu.now c.units.new.cpu) (sym c.in-Units.is)
-    (subst (λ (path : List ℕ). ReadsAfterSettling t (SaysUnits t path c.units.result) c.args.cpu.now c.units.new.cpu) c.deref.ensures.value c.units.ensures.says)
+    let says = c.units in
+    subst (λ (asked : TextCall). ServesBehind t (SettlesAndSays t (SaysText t asked says.result)) c.args.self.now says.new.self c.args.cpu.now says.new.cpu)
+    (sym c.in-Units.is)
+    (subst (λ (path : List ℕ). ServesBehind t (SettlesAndSays t (SaysUnits t path says.result)) c.args.self.now says.new.self c.args.cpu.now says.new.cpu)
+    c.deref.ensures.value says.ensures)
