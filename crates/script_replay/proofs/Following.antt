@@ -4,12 +4,14 @@ use Rattle.std.specs.Prelude.{slice_set}
 use Rattle.std.specs.List.{slice_get}
 use Rattle.std.proofs.lemmas.List.{append-nil, length-set}
 use Rattle.frame_word.specs.declared.answers.Get.TheVariants.{Held}
+use Rattle.frame_word.specs.declared.answers.Put.{Put}
+use Rattle.frame_word.specs.declared.answers.Put.TheVariants as put
 use Rattle.stock_word.specs.declared.stock.Stock.{Stock}
 use Rattle.group_charge.specs.Charges.{Ledger}
 use Rattle.group_tree.specs.declared.fault.Fault.TheVariants.{NoGroup, PinsFull, NotPinned}
 use Rattle.cpu_part.specs.declared.answers.Fast.{Fast as FastAnswer}
 use Rattle.cpu_part.specs.declared.answers.Fast.TheVariants.{FreshFull, ListEmpty, OtherGroup, Drained, NoStock, Got}
-use Rattle.cpu_part.specs.{KnownCpuLists, FastAnswers}
+use Rattle.cpu_part.specs.{KnownCpuLists, FastAnswers, UnpinAnswers}
 use Rattle.step_rules.specs.declared.phase.Hold.{Hold}
 use Rattle.step_rules.specs.declared.phase.Hold.TheVariants.{HeldBy, Unheld}
 use Rattle.step_rules.specs.declared.step.Action.{Action}
@@ -37,7 +39,7 @@ use Rattle.reply_texts.specs.declared.steps.UnlockedAnswer.TheVariants as unlock
 use Rattle.script_lines.specs.declared.line.Command.{Command}
 use Rattle.script_lines.specs.declared.line.Command.TheVariants as command
 use Rattle.script_replay.specs.Answers.{AnswersUnlocked, AnswersCommand, ServesUnlocked, CanNotList, IsServedUnderLock, IsTriedInVain, OnlySaw, OnlyWatched}
-use Rattle.script_replay.specs.Answers.{steps_unlocked}
+use Rattle.script_replay.specs.Answers.{changes_in, steps_unlocked}
 use Rattle.script_replay.proofs.Gaining.{saw_none}
 
 -- ---- what is tried in vain
@@ -181,9 +183,16 @@ module _ (t : KnownTable) (run : Run) (locked : KnownLocked) (cpus : List KnownC
       step_follows (step.Consume g) step_answer.Took after kept tt
       (fast_calls_lead.got t run m cpus k c.part after.cpu.part this_part g f c.last after.cpu.last is) legal
 
+  put_follows : (f : ℕ) (answer : Put) (after : LockedState) → UnpinAnswers f answer c.part after.cpu.part
+      → OnlySaw t (cpu_makes p (step.Put f) (put_answer answer) ∷ []) locked after.locked → IsLegalOn (cpu_makes p (step.Put f) (put_answer answer) ∷ [])
+      → Follows (cpu_makes p (step.Put f) (put_answer answer) ∷ []) after
+  put_follows f answer after is kept legal =
+      step_follows (step.Put f) (put_answer answer) after kept tt (fast_calls_lead.is_put t run m cpus k c.part after.cpu.part this_part f answer is) legal
+
   -- without the lock
   unlocked_follows : (command : Command) (said : UnlockedAnswer) (after : LockedState) → AnswersUnlocked command c after.cpu said
-      → OnlySaw t (steps_unlocked p command said) locked after.locked → IsLegalOn (steps_unlocked p command said) → Follows (steps_unlocked p command said) after
+      → OnlySaw t (changes_in (steps_unlocked p command said)) locked after.locked → IsLegalOn (changes_in (steps_unlocked p command said))
+      → Follows (changes_in (steps_unlocked p command said)) after
   unlocked_follows (command.Fast g) (unlocked.Fast (Got f)) after is kept legal = got_follows g f after is kept legal
   unlocked_follows (command.Fast g) (unlocked.Fast fast) after is kept legal =
       unseen_follows after kept (fast_same g fast c.last c.part after.cpu.last after.cpu.part is (λ f e. cc))
@@ -191,8 +200,8 @@ module _ (t : KnownTable) (run : Run) (locked : KnownLocked) (cpus : List KnownC
       step_follows (step.Get f) step_answer.Held after kept tt (fast_calls_lead.held t run m cpus k c.part after.cpu.part this_part f is.1) legal
   unlocked_follows (command.Get f) (unlocked.Got got) after is kept legal = unseen_follows after kept is.1
   unlocked_follows (command.Get f) (unlocked.Refused PinsFull) after is kept legal = unseen_follows after kept is.1.1
-  unlocked_follows (command.Put f) (unlocked.Put putted) after is kept legal =
-      step_follows (step.Put f) (put_answer putted) after kept tt (fast_calls_lead.is_put t run m cpus k c.part after.cpu.part this_part f putted is.1) legal
+  unlocked_follows (command.Put f) (unlocked.Put (put.Left left)) after is kept legal = put_follows f (put.Left left) after is.1 kept legal
+  unlocked_follows (command.Put f) (unlocked.Put put.Last) after is kept legal = put_follows f put.Last after is.1 kept legal
   unlocked_follows (command.Put f) (unlocked.Refused NotPinned) after is kept legal = unseen_follows after kept is.1.1
   unlocked_follows (command.Release f) unlocked.Listed after is kept legal =
       step_follows (step.Credit f) step_answer.Stocked after kept tt
@@ -208,7 +217,7 @@ module _ (t : KnownTable) (run : Run) (locked : KnownLocked) (cpus : List KnownC
       (ap (λ (x : CpuInRun). x.part) none.0.same_cpu)) legal
   serves_unlocked_follows (command.Alloc path zero) steps after said is legal = absurd is.0
   serves_unlocked_follows command steps after said is legal =
-      as_made steps (steps_unlocked p command said) after is.1.steps_are (λ all. unlocked_follows command said after is.0 is.1.locked all) legal
+      as_made steps (changes_in (steps_unlocked p command said)) after is.1.steps_are (λ all. unlocked_follows command said after is.0 is.1.locked all) legal
 
   -- served under the lock
   locked_follows : (is_explained : Bool) (seen : LockedState) → OnlySaw t [] locked seen.locked → seen.cpu.part ≡ c.part → (command : Command)

@@ -1,14 +1,17 @@
 -- What the zone's past and a CPU's past gain by a command, and how the run so far goes on. Serves `try_unlocked`,
 -- `try_in_order`, `alloc_in_order`, and what is told of each line.
-use Rattle.std.proofs.Common.{◌≡◌, ◌≢◌, ◌∙◌, ℕ, Bool, true, false, Option, Some, None, List, [], ◌∷◌, ◌++◌, append_assoc, append-nil, ap, inl, inr, refl, subst, sym}
-use Rattle.std.specs.Prelude.{IfNone, IfSome, slice_set, if◌then◌else◌}
+use Rattle.std.proofs.Common.{◌≡◌, ◌≢◌, ◌∙◌, ℕ, Bool, true, false, Option, Some, None, List, [], ◌∷◌, ◌++◌, append_assoc, append-nil, ap, arith, inl, inr, refl, subst, sym}
+use Rattle.std.specs.Prelude.{IfNone, IfSome, Ok, cond, not, slice_set, if◌then◌else◌}
 use Rattle.std.specs.Option.{option_map}
 use Rattle.std.specs.List.{slice_get}
 use Rattle.std.proofs.lemmas.List.{map-set}
 use Rattle.std.proofs.lemmas.Option.{slice_get-map}
 use Rattle.boot_words.specs.declared.past.Past.{Past}
-use Rattle.boot_words.specs.{AllOf, KnownPasts, Meets, own_past, GrewByAll, IsRunSoFar, changes_nothing, KnownTable}
+use Rattle.boot_words.specs.{AllOf, AreChangesOf, KnownPasts, Meets, own_past, GrewByAll, IsRunSoFar, changes_nothing, KnownTable}
 use Rattle.boot_words.proofs.Gaining.{gains_go_on, meet_gains, none_gains}
+use Rattle.boot_words.proofs.Ordered.{as_many, changes_in_order, has_through, without_both, without_none}
+use Rattle.frame_word.specs.declared.answers.Get.{Get}
+use Rattle.frame_word.specs.declared.answers.Get.TheVariants as get
 use Rattle.frame_word.specs.declared.answers.Put.{Put}
 use Rattle.frame_word.specs.declared.answers.Put.TheVariants as put
 use Rattle.stock_word.specs.declared.stock.Stock.{Stock}
@@ -16,7 +19,7 @@ use Rattle.stock_word.specs.Stock.{is_held}
 use Rattle.group_tree.specs.declared.fault.Fault.TheVariants.{PinsFull, NotPinned}
 use Rattle.cpu_part.specs.declared.answers.Fast.{Fast}
 use Rattle.cpu_part.specs.declared.answers.Fast.TheVariants as fast
-use Rattle.cpu_part.specs.Told.{steps_of_fast, steps_of_put}
+use Rattle.cpu_part.specs.Told.{steps_of_fast, steps_of_get, steps_of_put}
 use Rattle.step_rules.specs.declared.step.Step.{Step}
 use Rattle.step_rules.specs.declared.step.Action.{Action}
 use Rattle.step_rules.specs.declared.step.Action.TheVariants as step
@@ -31,7 +34,7 @@ use Rattle.reply_texts.specs.declared.steps.UnlockedAnswer.{UnlockedAnswer}
 use Rattle.reply_texts.specs.declared.steps.UnlockedAnswer.TheVariants as unlocked
 use Rattle.script_lines.specs.declared.line.Command.TheVariants as command
 use Rattle.script_lines.specs.declared.line.Command.{Command}
-use Rattle.script_replay.specs.Answers.{AnswersUnlocked, Gains, MakesUnlocked, NeedsLock, OnlySaw, OnlyWatched, locked_with_run, steps_unlocked}
+use Rattle.script_replay.specs.Answers.{AnswersUnlocked, Gains, MakesUnlocked, NeedsLock, OnlySaw, OnlyWatched, changes_in, locked_with_run, steps_unlocked}
 use Rattle.script_replay.specs.Lines.{AllLinesGoOn, RunGoesOn, HasRun, SystemState, steps_of_served, system_state}
 
 -- ---- the steps of a call without the lock
@@ -70,6 +73,13 @@ module _ (n : ℕ) (before after : KnownPasts) where
       → GrewByAll (own_past before) (steps_of_fast n g answer last) (own_past after) → MakesUnlocked n [] before after
   no_fast_made g (fast.Got f) last none grew = absurd (none f refl)
   no_fast_made g answer last none grew = fast_made g answer last grew
+
+  pub get_made : (f : ℕ) (answer : Get) → GrewByAll (own_past before) (steps_of_get n f (Ok answer)) (own_past after)
+      → MakesUnlocked n (steps_unlocked n (command.Get f) (unlocked.Got answer)) before after
+  get_made f get.Held grew = told (step.Get f) step_answer.Held grew
+  get_made f get.Zero grew = told (step.Get f) step_answer.Zero grew
+  get_made f get.Full grew = told (step.Get f) step_answer.Full grew
+  get_made f (get.Raced found) grew = nothing grew
 
   pub put_made : (f : ℕ) (answer : Put) → GrewByAll (own_past before) (steps_of_put n f answer) (own_past after)
       → MakesUnlocked n (steps_unlocked n (command.Put f) (unlocked.Put answer)) before after
@@ -154,6 +164,33 @@ pub watched_gains : (steps more : Run) (before : LockedState) (l m : KnownLocked
     → Gains steps before (locked_state m d)
 watched_gains steps more before l m d gains only =
     subst (λ (z : KnownLocked). Gains steps before (locked_state z d)) (sym only.locked) gains
+
+-- a run without its steps that change nothing
+are_changes : (run : Run) → AreChangesOf run (changes_in run)
+are_changes [] = refl
+are_changes (e ∷ run) = by_cases (changes_nothing e.1) refl (are_changes run)
+  where
+    by_cases : (quiet : Bool) → changes_nothing e.1 ≡ quiet → AreChangesOf run (changes_in run)
+        → AreChangesOf (e ∷ run) (cond (not quiet) (e ∷ changes_in run) (changes_in run))
+    by_cases true is rest = inl (is, rest)
+    by_cases false is rest = inr (changes_in run, refl, rest)
+
+-- the pasts that gain steps gain those that change something
+pub changes_gained : (steps : Run) (before after : LockedState) → Gains steps before after → Gains (changes_in steps) before after
+changes_gained steps before after gains =
+    let are = are_changes steps in
+    let any : Step × Answer → Type 0 = λ made. Unit {0} in record {
+      zone_number = gains.zone_number;
+      cpu_number = gains.cpu_number;
+      in_order = λ earlier has. has_through (own_past after.locked.machine.run.past).seen (earlier ++ steps) (earlier ++ changes_in steps)
+          (gains.in_order earlier has)
+          (without_both any earlier earlier steps (changes_in steps) (without_none any earlier) (changes_in_order steps (changes_in steps) are));
+      of_zone = let all = gains.of_zone in let same = as_many 0 steps (changes_in steps) are in omega (arith, all, same);
+      of_cpu =
+          let n = (own_past before.cpu.past).number in
+          let all = gains.of_cpu in let same = as_many n steps (changes_in steps) are in omega (arith, all, same);
+      of_others = λ other not_zone ne. as_many other steps (changes_in steps) are ∙ gains.of_others other not_zone ne;
+    }
 
 -- a call without the lock, between two meetings
 pub met_gains : (t : KnownTable) (l l1 l2 : KnownLocked) (c c1 c2 c3 : CpuInRun) (steps : ℕ → Run) → (own_past c.past).number ≡ c.part.number

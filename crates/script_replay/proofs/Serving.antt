@@ -23,10 +23,10 @@ use Rattle.script_lines.specs.declared.line.Command.TheVariants.{Alloc, Fast, Ge
 use Rattle.step_rules.specs.After.{Run}
 use Rattle.script_replay.specs.{AddsText, AnswersUnlocked, AnswersLocked, Gains, OnlySaw, AnswersCommand, ServesUnlocked, IsAnswerText, IsSettledText}
 use Rattle.script_replay.specs.{IsTriedInVain, NeedsLock, OnlyWatched, ServesAnswer, ServesUnderLock, TakesNoLock, explanation_if, is_noted}
-use Rattle.script_replay.specs.{steps_unlocked, OnlySettles, locked_command_of, frame_path, head_named, is_tried, path_removed, borrower_of, fault_in}
+use Rattle.script_replay.specs.{changes_in, steps_unlocked, OnlySettles, locked_command_of, frame_path, head_named, is_tried, path_removed, borrower_of, fault_in}
 use Rattle.script_replay.specs.{refusal_reason_text, reasoned_text}
 use Rattle.script_replay.specs.Terms.{Terms}
-use Rattle.script_replay.proofs.Gaining.{gains_none, saw_both, saw_none, watched_gains, watched_saw}
+use Rattle.script_replay.proofs.Gaining.{changes_gained, gains_none, saw_both, saw_none, watched_gains, watched_saw}
 
 -- ---- served
 
@@ -44,14 +44,20 @@ then_watched t l mid m cpu number is told saw watched =
 module _ (on : Terms) (command : Command) (l m : KnownLocked) (c d : CpuInRun) where
   -- without the lock
   pub unlocked_served : (mid : KnownLocked) (cpu : ℕ) (said : UnlockedAnswer) → cpu ≡ c.part.number → AnswersUnlocked command c d said → OnlySaw on.table [] l mid
-      → Gains (steps_unlocked c.part.number command said) (locked_state l c) (locked_state mid d) → OnlyWatched (steps_unlocked cpu command said) mid m
+      → Gains (steps_unlocked c.part.number command said) (locked_state l c) (locked_state mid d)
+      → OnlyWatched (changes_in (steps_unlocked cpu command said)) mid m
       → ServesAnswer on command (locked_state l c) (locked_state m d) (answer.Unlocked said)
-  unlocked_served mid cpu said is alone saw gains watched = let steps = steps_unlocked c.part.number command said in record {
-    steps = steps;
-    answered = unlocked_is command (transition on.table (locked_state l c) steps (locked_state m d)) said alone
-        (record { locked = then_watched on.table l mid m cpu c.part.number is (λ (n : ℕ). steps_unlocked n command said) saw watched; steps_are = refl });
-    gains = watched_gains steps (steps_unlocked cpu command said) (locked_state l c) mid m d gains watched;
-  }
+  unlocked_served mid cpu said is alone saw gains watched =
+      let before = locked_state l c in
+      let after = locked_state m d in
+      let told : ℕ → Run = λ (n : ℕ). changes_in (steps_unlocked n command said) in
+      let steps = steps_unlocked c.part.number command said in
+      let gained : Gains steps before after = watched_gains steps (told cpu) before mid m d gains watched in record {
+        steps = changes_in steps;
+        answered = unlocked_is command (transition on.table before (changes_in steps) after) said alone
+            (record { locked = then_watched on.table l mid m cpu c.part.number is told saw watched; steps_are = refl; gains = gained });
+        gains = changes_gained steps before after gained;
+      }
 
   -- under the lock, after it was tried in vain
   pub lock_served : (seen : LockedState) (answer : LineAnswer) → IsTriedInVain command (locked_state l c) seen.cpu → OnlySaw on.table [] l seen.locked

@@ -2,18 +2,17 @@
 -- relates a transition to an answer, and `Writes..` relates a transition to a text. `Serves..` relates the state
 -- before, the state after and a text, by some steps.
 use Rattle.std.specs.Prelude.{◌≡◌, ◌≢◌, ◌⊎◌, ℕ, zero, ◌+◌, ◌<◌, ◌≤◌, Bool, true, false, ◌&&◌, List, [], ◌∷◌, ◌++◌}
-use Rattle.std.specs.Prelude.{Option, Some, None, Result, IfOk, length}
+use Rattle.std.specs.Prelude.{Option, Some, None, Result, Ok, IfOk, filter, length, not}
 use Rattle.std.specs.declared.string.String.{String}
 use Rattle.std.specs.String.{string_bytes}
-use Rattle.frame_word.specs.declared.answers.Get.TheVariants.{Held}
-use Rattle.boot_words.specs.{AllOf, KnownPasts, own_past, AreChangesOf, GainsSteps, GrewByAll, KnownTable}
+use Rattle.boot_words.specs.{AllOf, KnownPasts, own_past, AreChangesOf, GainsSteps, GrewByAll, KnownTable, changes_nothing}
 use Rattle.group_tree.specs.Groups.{number_at}
 use Rattle.group_tree.specs.declared.fault.Fault.TheVariants.{NoGroup, PinsFull, NotPinned}
 use Rattle.step_rules.specs.State.{times, most_pins}
 use Rattle.cpu_part.specs.declared.answers.Fast.{Fast as FastAnswer}
 use Rattle.cpu_part.specs.declared.answers.Fast.TheVariants.{Got}
 use Rattle.cpu_part.specs.declared.answers.Dropped.TheVariants as dropped
-use Rattle.cpu_part.specs.{FastAnswers, DropAnswers, PinAnswers, StaysSo, UnpinAnswers}
+use Rattle.cpu_part.specs.{FastAnswers, DropAnswers, PinAnswers, StaysSo, UnpinAnswers, steps_of_get}
 use Rattle.step_rules.specs.declared.step.Action.TheVariants as step
 use Rattle.step_rules.specs.declared.step.Answer.TheVariants as step_answer
 use Rattle.step_rules.specs.After.{Run, cpu_makes}
@@ -83,10 +82,15 @@ Gains steps before after = GainsSteps (own_past before.locked.machine.run.past) 
 
 -- ---- without the lock
 
--- no lock is taken: only the CPU makes these steps, and behind the lock the watch takes them
+-- the steps of the run whose answer changes something
+abbrev pub changes_in : Run → Run
+changes_in run = filter (λ made. not (changes_nothing made.1)) run
+
+-- No lock is taken: only the CPU makes these steps. The watch takes those that change something.
 pub record TakesNoLock (steps : Run) (call : Transition LockedState) : Type 0 where
-  pub locked : OnlySaw call.table steps call.before.locked call.after.locked
-  pub steps_are : call.steps ≡ steps
+  pub locked : OnlySaw call.table (changes_in steps) call.before.locked call.after.locked
+  pub steps_are : call.steps ≡ changes_in steps
+  pub gains : Gains steps call.before call.after
 
 -- a fresh frame was listed again without the lock
 pub record ListsAgain (frame : ℕ) (before after : CpuInRun) : Type 0 where
@@ -130,10 +134,10 @@ AnswersUnlocked (Put frame) before after (unlocked.Refused NotPinned) =
 AnswersUnlocked (Release frame) before after unlocked.Listed = ListsAgain frame before after
 AnswersUnlocked command before after answer = ⊥
 
--- the step of such an answer, if one was made
+-- the step of such an answer, if one was made; that of a get also if it is answered `zero` or `full`
 abbrev pub steps_unlocked : (cpu : ℕ) → Command → UnlockedAnswer → Run
 steps_unlocked cpu (Fast group) (unlocked.Fast (Got frame)) = cpu_makes cpu (step.Consume group) step_answer.Took ∷ []
-steps_unlocked cpu (Get frame) (unlocked.Got Held) = cpu_makes cpu (step.Get frame) step_answer.Held ∷ []
+steps_unlocked cpu (Get frame) (unlocked.Got got) = steps_of_get cpu frame (Ok got)
 steps_unlocked cpu (Put frame) (unlocked.Put put) = cpu_makes cpu (step.Put frame) (put_answer put) ∷ []
 steps_unlocked cpu (Release frame) unlocked.Listed = cpu_makes cpu (step.Credit frame) step_answer.Stocked ∷ []
 steps_unlocked cpu command answer = []

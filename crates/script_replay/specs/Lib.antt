@@ -15,7 +15,7 @@ pub mod Runs
 pub use Rattle.script_replay.specs.Answers.{AddsText, AnswersUnlocked, AnswersCommand, AnswersLocked, ServesUnlocked, Gains, IsAnswerText}
 pub use Rattle.script_replay.specs.Answers.{IsServedUnderLock, IsSettledText, IsTriedInVain, MakesUnlocked, NeedsLock, OnlySaw, OnlyWatched}
 pub use Rattle.script_replay.specs.Answers.{ServesAnswer, ServesCommand, ServesUnderLock, TakesNoLock, WritesCommand, explanation_if, is_noted}
-pub use Rattle.script_replay.specs.Answers.{locked_with_detail_notes, locked_with_watch, steps_unlocked, steps_tried}
+pub use Rattle.script_replay.specs.Answers.{changes_in, locked_with_detail_notes, locked_with_watch, steps_unlocked, steps_tried}
 pub use Rattle.script_replay.specs.Commands.{HasValueAnswer, OnlySettles, frame_path, head_named, is_tried, locked_command_of, path_removed}
 pub use Rattle.script_replay.specs.History.{HasLegalHistory, KeepsHistory, KeepsPromise, LegalLinesAreShown, LegalLinesKeepIt, LinesSoFar, ReplaysLegally}
 pub use Rattle.script_replay.specs.History.{StopsFor, lines_so_far, with_line}

@@ -10,7 +10,7 @@ ghost use Rattle.step_rules.specs.declared.step.Action.TheVariants as step;
 ghost use Rattle.step_rules.specs.declared.step.Answer.TheVariants as step_answer;
 ghost use Rattle.mem_system.specs.Visits.{locked_state};
 ghost use Rattle.script_replay.specs.Answers.{AnswersUnlocked, CanNotList, Gains, ListsAgain, MakesUnlocked, NeedsLock};
-ghost use Rattle.script_replay.specs.Answers.{OnlySaw, OnlyWatched, steps_unlocked, steps_tried};
+ghost use Rattle.script_replay.specs.Answers.{OnlySaw, OnlyWatched, changes_in, steps_unlocked, steps_tried};
 ghost use Rattle.script_replay.specs.Commands.{is_tried};
 ghost use Rattle.script_replay.specs.Ranges.{CommandInRange};
 
@@ -161,8 +161,8 @@ pub(crate) fn watch_paid<N: BootName>(locked: &mut Locked<N>, cpu: u32, group: G
     }
 }
 
-// The watch takes the step of this answer, if one was made. It is asked first whether it is on, because an action has
-// room for a path, and building one for each line costs.
+// The watch takes the step of this answer, if one was made that changes something. It is asked first whether it is on,
+// because an action has room for a path, and building one for each line costs.
 #[inline(always)]
 #[tactic(auto, using(crate::proofs::Taking::unwatched))]
 pub(crate) fn watch_unlocked<N: BootName>(
@@ -173,7 +173,7 @@ pub(crate) fn watch_unlocked<N: BootName>(
 )
     requires in_range { CommandInRange N.table.frames command.now }
     requires few { (left : ℕ) → said.now ≡ unlocked.Put (Left left) → left < 2 ^ 32 }
-    ensures { OnlyWatched (steps_unlocked cpu command.now said.now) locked.old locked.new }
+    ensures { OnlyWatched (changes_in (steps_unlocked cpu command.now said.now)) locked.old locked.new }
 {
     if !locked.watch().is_on() {
         return;

@@ -20,7 +20,9 @@ returns-in-Got-clause-answer g c path is =
     let number = c.args.cpu.now.part.number in
     let before = locked_state l c.args.cpu.now in
     let left = c.alloc_in_order.new.cpu in
-    let watched : OnlyWatched (steps_unlocked c.number-cpu_number.result (Fast group) said) mid m = c.watch_paid.ensures in record {
+    let watched : OnlyWatched (steps_unlocked c.number-cpu_number.result (Fast group) said) mid m = c.watch_paid.ensures in
+    let gained = watched_gains (steps_unlocked number (Fast group) said) (steps_unlocked c.number-cpu_number.result (Fast group) said) before mid m left
+    c.in-Got.ensures.gains watched in record {
       steps = steps_unlocked number (Fast group) said;
       answered = record {
         gets = record { group = group; found = is; got = c.in-Got.ensures.answer };
@@ -28,10 +30,10 @@ returns-in-Got-clause-answer g c path is =
           locked = then_watched g.N.BootName.table l mid m c.number-cpu_number.result number c.number-cpu_number.ensures.number (λ (n : ℕ). steps_unlocked n (Fast group) said)
               c.in-Got.ensures.only_saw watched;
           steps_are = refl;
+          gains = gained;
         };
       };
-      gains = watched_gains (steps_unlocked number (Fast group) said) (steps_unlocked c.number-cpu_number.result (Fast group) said) before mid m left
-          c.in-Got.ensures.gains watched;
+      gains = gained;
     }
 
 pub returns-in_default-clause-answer : goal.returns-in_default-clause-answer
