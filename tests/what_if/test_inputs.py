@@ -3,10 +3,12 @@ import io
 import os
 import tempfile
 import unittest
+from argparse import Namespace
 from array import array
 
-from what_if import cgroupfs, kubernetes, prometheus, rows, signs
+from what_if import cgroupfs, grafana, kubernetes, prometheus, rows, signs
 from what_if.amounts import Fault, amount_text, read_amount
+from what_if.importing import import_lines
 from what_if.joining import join
 from what_if.prepare import filled, keep_greatest, not_cumulative
 from what_if.series import Series, read_number, read_time
@@ -44,7 +46,7 @@ class Amounts(unittest.TestCase):
     def test_words(self):
         for word, count in (("300M", 300 * MIB), ("300Mi", 300 * MIB), ("1k", 1024), ("128974848000m", 123 * MIB), ("0", 0)):
             self.assertEqual(read_amount(word), count)
-        for word in ("500m", "0.5G", "M", "-1", "3MM"):
+        for word in ("500m", "0.5G", "M", "-1", "3MM", "16E", "99999999999999999999"):
             self.assertRaises(Fault, read_amount, word)
         self.assertRaisesRegex(Fault, "'500m' is 0.5 bytes.*500M", read_amount, "500m")
 
@@ -52,6 +54,8 @@ class Amounts(unittest.TestCase):
         for word, count in (("1.5e9", 1_500_000_000), ("50M", 50_000_000), ("1Gi", 1 << 30), ("128974848000m", 123 * MIB)):
             self.assertEqual(kubernetes.quantity(word), count)
         self.assertRaisesRegex(Fault, "500Mi", kubernetes.quantity, "500m")
+        self.assertRaisesRegex(Fault, "more than any host has", kubernetes.quantity, "1e400")
+        self.assertRaisesRegex(Fault, "no quantity", kubernetes.quantity, "1e1000000")
 
     def test_texts(self):
         self.assertEqual([amount_text(count) for count in (0, 1023, 1024, 1536, 1 << 40)],
@@ -77,14 +81,20 @@ class Joined(unittest.TestCase):
         track = made.tracks["/p"]
         self.assertEqual((track.anon[1], track.file[9], track.file[10]), (900 * MIB, 0, 2 * MIB))
         self.assertIn("active_file of /p begins late, after 600 s", notes[0])
-        lines = [*usage_lines(made)]
-        self.assertEqual(read_rows(lines, "usage.csv", str).remarks, notes)
 
     def test_gap_of_one_kind_is_named(self):
         made, notes = self.made(series("rss", [(at, MIB) for at in range(0, 600, 10)], pod="p"),
                                 series("cache", [(at, 7) for at in (0, 10, 20, 400, 410, 420, 430)], pod="p"))
         self.assertEqual(list(made.tracks["/p"].file), [7] * 60)
         self.assertIn("cache of /p has no value for 380 s from 20 s on", notes[0])
+
+    def test_what_is_left_out_is_named(self):
+        _, notes = self.made(series("anon", [(0, 5)], pod="p"), series("anon", [], pod="q"), series("limit", [(0, 5)], pod="r"))
+        self.assertEqual(notes, ["1 series have no value, and are left out: anon of /q",
+                                 "of /r no kind has an amount: their settings and counts are left out"])
+        text = "Time,/a\n5,1 MiB\n6,1 Mb\n7,null\n"
+        found, notes = in_file(text, lambda path, _, note: grafana.read(path, "rss", note))
+        self.assertEqual(([*found[0].values], notes[0].partition(": ")[2]), ([MIB], "1 cells are no numbers, and are left out: 1 Mb"))
 
     def test_series_at_different_times(self):
         made, _ = self.made(series("rss", [(0, 5), (30, 6)], pod="p"), series("cache", [(15, 1), (45, 2)], pod="p"))
@@ -102,14 +112,47 @@ class Joined(unittest.TestCase):
 
     def test_negative(self):
         self.assertRaisesRegex(Fault, "memory isn't negative", Series("rss", {"pod": "p"}).add, 0, -5)
+        self.assertRaisesRegex(Fault, "no host has so much", Series("rss", {"pod": "p"}).add, 0, 1 << 60)
 
-    def test_working_set_alone(self):
-        self.assertIn("only the working set is known", self.made(series("working_set", [(0, 5)], pod="p"))[1][0])
+    def test_what_does_not_part_memory_is_named(self):
+        """A working set has what is active of the cache, so what is anonymous in it can't be told by the cache alone."""
+        parts = {"active_file": 20, "inactive_file": 50}
+        for kinds, pages, says in (
+                ({"working_set": 100}, (100, 0), "only the working set is known"),
+                ({"usage": 100}, (100, 0), "only the usage is known"),
+                ({"working_set": 100, "cache": 70}, (100, 0), "only the working set is known"),
+                ({"working_set": 100, **parts}, (80, 70), None),
+                ({"usage": 150, "cache": 70}, (80, 70), "shared memory isn't known"),
+                ({"rss": 60, "cache": 90}, (60, 90), "shared memory isn't known"),
+                ({"rss": 60, "cache": 90, **parts}, (80, 70), None),
+                ({"rss": 60, "cache": 90, "shmem": 20}, (80, 70), None),
+                ({"rss": 60, "working_set": 100, "kernel": 5}, (60, 35), "shared memory isn't known"),
+                ({"rss": 60, "working_set": 105, "kernel": 5, **parts}, (80, 70), None),
+                ({"rss": 60}, (60, 0), "shared memory isn't played"),
+                ({"cache": 90}, (0, 90), "it isn't played"),
+                ({"anon": 60, "file": 9}, (60, 9), None)):
+            made, notes = self.made(*(series(kind, [(0, value)], pod="p") for kind, value in kinds.items()))
+            track = made.tracks["/p"]
+            self.assertEqual((track.anon[0], track.file[0]), pages, kinds)
+            self.assertEqual([says in note for note in notes], [True] * (says is not None), kinds)
+
+    def test_greater_than_any_host(self):
+        found = series("limit", [], pod="p")
+        found.add(0, 1 << 64)
+        made, _ = self.made(found, series("anon", [(0, 5)], pod="p"))
+        self.assertIsNone(made.tracks["/p"].setting("max", 0))
 
     def test_kills_and_peak(self):
         made, _ = self.made(series("rss", [(at, 5) for at in range(5)], pod="p"),
                             series("oom_kill", list(enumerate((7, 7, 8, 1, 1))), pod="p"), series("peak", [(0, 9)], pod="p"))
         self.assertEqual((made.tracks["/p"].oom_kills, made.tracks["/p"].peak), ([2, 3], 9))
+
+    def test_first_count_of_a_group_that_came_later_is_of_kills(self):
+        made, _ = self.made(series("anon", [(0, 5), (1, 5), (2, 5)], pod="q"),
+                            *(series(kind, [(1, value), (2, value)], pod="p") for kind, value in (("anon", 5), ("oom_kill", 1))))
+        self.assertEqual(made.tracks["/p"].oom_kills, [1])
+        made = usage("0,/a,5,6,9,4,8 1,/a,5,0,max,4,9 1,/b,1,0,max,2,")
+        self.assertEqual([made.tracks[path].oom_kills for path in ("/a", "/b")], [[], [1]])
 
 
 class Formats(unittest.TestCase):
@@ -133,9 +176,10 @@ class Formats(unittest.TestCase):
             prometheus.PART = prometheus_part
 
     def test_rows(self):
-        found, _ = in_file("name,time,rss,cache,oom_kill\nb,5,1KiB,,3\n".replace(",,", ",0,"), rows.read)
+        found, notes = in_file("name,time,rss,cache,oom_kill\nb,5,1KiB,0,3\n# a, b\n", rows.read)
         self.assertEqual([(one.kind, one.labels, [*one.values]) for one in found],
-                         [("rss", {"path": "b"}, [1024]), ("cache", {"path": "b"}, [0]), ("oom_kill", {"path": "b"}, [3])])
+                         [("anon", {"path": "b"}, [1024]), ("file", {"path": "b"}, [0]), ("oom_kill", {"path": "b"}, [3])])
+        self.assertEqual(notes, ["a, b"])
 
     def test_cgroupfs(self):
         text = ("100\n/sys/fs/cgroup/a/memory.stat:anon 5\n/sys/fs/cgroup/a/memory.events:oom_kill 4\n"
@@ -143,6 +187,15 @@ class Formats(unittest.TestCase):
         found, _ = in_file(text, cgroupfs.read)
         kinds = {one.kind: one.values[0] for one in found}
         self.assertEqual((kinds["rss"], kinds["oom_kill"], kinds["peak"]), (5, 2, 77))
+
+    def test_what_an_import_lacks_is_in_its_usage(self):
+        """Also what its files warned of, and with no quote that would end no field."""
+        def lines(path, _, note):
+            return [*import_lines(Namespace(format="prometheus", files=[path], names=None, host=None), note)]
+
+        made, notes = in_file(self.ANSWER.replace("half is", ',\\"half\\" is'), lines)
+        self.assertEqual(read_rows(made, "usage.csv", str).remarks, [note.replace('"', "'") for note in notes[:-1]])
+        self.assertIn(",'half' is lacking", made[-2])
 
     def test_written_and_read_again(self):
         made = usage("0,/a,5,6,9,0,8 1,/a,5,0,max,2,9 1,/b,1,0,max,0,")
@@ -185,7 +238,7 @@ class Prepared(unittest.TestCase):
 
     def test_kernel_memory_of_a_whole_usage_is_in_it(self):
         for kind, kernel in (("rss", [5]), ("usage", [])):
-            made = join([series(kind, [(0, 100)], path="/a"), series("kernel", [(0, 5)], path="/a")], None)
+            made = join([series(kind, [(0, 100)], path="/a"), series("kernel", [(0, 5)], path="/a")], lambda _: None)
             self.assertEqual(([*made.tracks["/a"].anon], [*made.tracks["/a"].kernel]), ([100], kernel))
 
     def test_order_is_that_of_the_record(self):

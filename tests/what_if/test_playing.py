@@ -4,6 +4,7 @@ import random
 import re
 import unittest
 from array import array
+from dataclasses import replace
 
 from what_if import censored, explanations, kubernetes, touches
 from what_if.amounts import Fault
@@ -12,9 +13,10 @@ from what_if.lives import Life, Restart, start_before, starts_of
 from what_if.least import bisect, needed
 from what_if.margins import for_linux, read_margin, with_percent
 from what_if.packing import packed
-from what_if.patches import need_of
-from what_if.replay import How, Replay
-from what_if.usage import Setting, Track, usage_of
+from what_if.patches import need_of, patch_of
+from what_if.prepare import keep_greatest
+from what_if.replay import How, Replay, start
+from what_if.usage import MOST_FRAMES, NONE, Setting, Track, usage_of, with_settings
 
 ROOT = os.path.dirname(os.path.dirname(os.path.dirname(os.path.realpath(__file__))))
 MIB = 1 << 20
@@ -43,7 +45,7 @@ class Lives(unittest.TestCase):
         self.assertEqual([life.sample(times, seconds) for seconds in (100, 109, 110, 125)], [2, 2, 3, 4])
 
     def test_backoff(self):
-        self.assertEqual([Restart(0.0, True).wait(kills) for kills in (1, 2, 5, 6, 90)], [10, 20, 160, 300, 300])
+        self.assertEqual([Restart(0.0, True).wait(kills) for kills in (1, 2, 5, 6, 2000)], [10, 20, 160, 300, 300])
         self.assertEqual(Restart(7.0).wait(3), 7)
 
 
@@ -146,15 +148,51 @@ class Explanations(unittest.TestCase):
             self.assertRaisesRegex(Fault, "doesn't know", explanations.read_line, line)
 
 
+class Refused(unittest.TestCase):
+    def test_a_setting_that_memcg_does_not_take(self):
+        """Else it would be as if the limit held."""
+        session = Session()
+        replay = Replay(session, usage(a=track([1], settings={"max": [Setting(0, 5)]})), How("memcg"))
+        session.ask = lambda lines: ["refused 13 BadNumber"] * len(lines)
+        self.assertRaisesRegex(Fault, "answered 'refused 13 BadNumber' to '1 write /node/a memory.max 20480'", replay.play, 0)
+
+    def test_more_frames_than_a_zone_has(self):
+        made = replace(usage(a=track([1])), host=MOST_FRAMES + 1)
+        self.assertRaisesRegex(Fault, "a greater --frame is due", start, made, How("memcg"))
+
+
 class Hidden(unittest.TestCase):
     def test_a_kill_is_counted_at_its_limit(self):
-        made = usage(a=track([100, 160, 20], [90, 50, 5], oom_kills=[2], settings={"max": [Setting(0, 503)]}))
+        made = censored.with_killed(usage(a=track([100, 160, 20], [90, 50, 5], oom_kills=[2],
+                                                  settings={"max": [Setting(0, 503)]})))
+        # Limits that are given change nothing of what was recorded.
+        made = with_settings(made, {"max": {"/a": 170}})
         raised = censored.with_kills(made, 10).tracks["/a"]
         self.assertEqual(([*raised.anon], [*raised.file]), ([100, 500, 20], [90, 0, 5]))
-        found = censored.censored(made)
-        self.assertEqual((found["/a"].limit, censored.floors(found)), (503, {"/a": 503}))
-        self.assertIn("killed once while it was recorded, first at 2 s", found["/a"].text())
-        self.assertTrue(censored.marked(found, "/") and not censored.marked(found, "/b"))
+        self.assertEqual(censored.floors(made), {"/a": 503})
+        self.assertEqual(censored.lines(made)[0].partition(". ")[0],
+                         "/a was killed once while it was recorded, first at 2 s, with a limit of 503 B")
+        self.assertTrue(censored.marked(made, "/") and not censored.marked(made, "/b"))
+
+    def test_a_kill_of_a_limit_above_is_counted_there(self):
+        """Who of those below wanted the rest isn't known."""
+        made = censored.with_killed(usage(**{"p": track([NONE] * 3, [NONE] * 3, settings={"max": [Setting(0, 400)]}),
+                                             "p/a": track([100, 205, 20], [90, 50, 5], oom_kills=[2]),
+                                             "p/b": track([10, 10, 10], [0, 90, 0]), "q": track([7, 7, 7], oom_kills=[1])}))
+        raised = censored.with_kills(made, 10).tracks
+        self.assertEqual([(raised[path].anon[1], raised[path].file[1]) for path in ("/p", "/p/a", "/p/b")],
+                         [(180, 0), (205, 0), (10, 0)])
+        self.assertEqual(censored.floors(made), {"/p": 400})
+        self.assertIn("by the limit of /p, 400 B", made.killed["/p/a"].text())
+        self.assertIn("by no limit that was recorded", made.killed["/q"].text())
+
+    def test_a_kill_of_a_merged_group_is_named(self):
+        made = censored.with_killed(usage(**{"p": track([9, 9], [0, 0], settings={"max": [Setting(0, 400)]}),
+                                             "p/a": track([100, 5], oom_kills=[1], settings={"max": [Setting(0, 120)]})}))
+        made = keep_greatest(made, 1, set(), lambda _: None)
+        self.assertEqual([*censored.with_kills(made, 10).tracks["/p"].anon], [109, 14])
+        self.assertEqual((censored.floors(made), censored.marked(made, "/p")), ({"/p/a": 120}, True))
+        self.assertIn("/p/a was killed once", censored.lines(made)[0])
 
     def test_a_peak_between_samples(self):
         lines = [*censored.peak_lines(usage(a=track([100, 160], peak=171), b=track([100, 160], peak=169)))]
@@ -183,6 +221,10 @@ class Formulas(unittest.TestCase):
             return kubernetes.Container("app", limit, request, False, False, restarts)
 
         self.assertEqual(need_of(container(100, 50), 200), "in place")
+        self.assertIn("not alone in a Guaranteed pod", need_of(container(100, 100), 200))
+        mesh = kubernetes.Container("mesh", 100, 50, True, True, False)
+        line = [*patch_of("/p/mesh", 200, [kubernetes.Pod("n", "p", "/p", [mesh], 0)])][1]
+        self.assertIn('{"spec": {"initContainers": [{"name": "mesh"', line)
         self.assertIn("Kubernetes 1.33 needs a new pod", need_of(container(100, 50), 80))
         self.assertEqual(need_of(container(100, 50, True), 80), "the container restarts")
         self.assertRaisesRegex(Fault, "40 bytes .*below its request of 50 bytes", need_of, container(100, 50), 40)
@@ -199,10 +241,14 @@ class Formulas(unittest.TestCase):
 
     def test_margin_for_linux(self):
         """224 KiB a process, 0.3 % of the limit and 0.6 % of the greatest file pages; 192 KiB and 0.3 % of the file pages if
-        kernel memory is known."""
+        kernel memory is known, and 3 % of those that a memory.min below the limit protects."""
         made = usage(**{"p/a": track([5], [1000], pids=3), "p/b": track([5], [1000]), "q": track([9], [2000], most_kernel=4096)})
         self.assertEqual(for_linux(made, 4096, "/p", 1000), 4096 * (1000 + 4 * 56 + 3 + 12))
         self.assertEqual(for_linux(made, 4096, "/q", 9), 4096 * (9 + 48 + 6))
+        kept = track([9], [2000], most_kernel=4096, settings={"min": [Setting(0, 2009)]})
+        made = usage(**{"r/a": kept, "r/b": track([1], [1000], most_kernel=4096)})
+        self.assertEqual(for_linux(made, 4096, "/r", 50), 4096 * (50 + 48 + 9 + 60))
+        self.assertEqual(for_linux(made, 4096, "/r/a", 9), 4096 * (9 + 48 + 6))
         self.assertEqual((read_margin("linux"), read_margin("2.5")), ("linux", 2.5))
         for word in ("-1", "nan", "kernel"):
             self.assertRaises(Fault, read_margin, word)
@@ -212,6 +258,8 @@ class Formulas(unittest.TestCase):
         made = packed([("x/one.csv", one), ("y/one.csv", other)], 50)
         self.assertEqual((made.groups, [*made.times]), (["/", "/one", "/one/a", "/one-2", "/one-2/a"], [0, 1, 2]))
         self.assertEqual([*made.tracks["/one-2/a"].anon], [10, 10, 20])
+        both = [usage(**{"": track([4, 4]), name: track([1, 1])}) for name in ("a", "b")]
+        self.assertEqual(packed([("one.csv", both[0]), ("two.csv", both[1])], 50).groups, ["/", "/one", "/one/a", "/two", "/two/b"])
 
     def test_kept(self):
         self.assertEqual(kept_text({"reclaimed_bytes": 25, "read_bytes": 100}), "75 %")

@@ -8,6 +8,8 @@ SUFFIXES = " KMGTPE"
 NO_LIMIT = ("max", "unlimited", "-1")
 # What a table has of a path at most: its beginning, two points and its end.
 WIDEST = 60
+# No host has more bytes, so a number from here on is a mistake or means no limit.
+MOST = 1 << 60
 # Takes a line for standard error, of what is no fault but worth a look.
 Note = Callable[[str], None]
 
@@ -20,12 +22,19 @@ def read_amount(word: str) -> int:
     """The bytes that a word such as 300M or 300Mi means. A small m is a thousandth, as in Kubernetes."""
     thousandths = re.fullmatch(r"([0-9]+)m", word)
     if thousandths:
-        return whole_bytes(int(thousandths[1]), word)
+        return within_reach(whole_bytes(int(thousandths[1]), word), word)
     found = re.fullmatch(r"([0-9]+)(?:([KMGTPE])(?:IB?)?)?", word.upper())
     if not found:
         raise Fault(f"'{word}' isn't an amount: a whole number of bytes, perhaps with K, M, G, T, P or E; "
                     "Mi means the same as M")
-    return int(found[1]) << 10 * (SUFFIXES.index(found[2]) if found[2] else 0)
+    return within_reach(int(found[1]) << 10 * (SUFFIXES.index(found[2]) if found[2] else 0), word)
+
+
+def within_reach(count: int, word: str) -> int:
+    """The bytes that a word means; refuses what no host has, and memcg may not take as a limit."""
+    if count > MOST:
+        raise Fault(f"'{word}' is more than any host has; a limit that there isn't is max")
+    return count
 
 
 def whole_bytes(thousandths: int, word: str) -> int:

@@ -99,15 +99,11 @@ def snapshots(path: str) -> Iterator[Tuple[float, Dict[str, Files]]]:
         yield seconds, groups
 
 
-def read(path: str, _: Optional[str], note: Note) -> List[Series]:
+def read(path: str, _: Optional[str], __: Note) -> List[Series]:
     """The series of a file, and those of settings."""
-    lacking = set()
     series: Dict[Tuple[str, str], Series] = {}
     for seconds, groups in snapshots(path):
         for group, files in groups.items():
             for kind, value in kinds_of(files).items():
-                lacking |= {group} if kind == "usage" else set()
                 series.setdefault((kind, group), Series(kind, {"path": group})).add(seconds, value)
-    if lacking:
-        note(f"{len(lacking)} groups have no memory.stat, {min(lacking)} first: memory.current is counted as anonymous")
     return [*series.values()]

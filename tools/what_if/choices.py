@@ -17,11 +17,15 @@ def add_options(parser: argparse.ArgumentParser) -> None:
     parser.add_argument("--as-is", action="store_true", help="none of the choices by which reclaim is nearer to a kernel's")
     parser.add_argument("--reclaim-batch", metavar="N", type=int,
                         help="a round of reclaim for a charge wants at least N frames")
-    parser.add_argument("--no-kill", action="store_true", help="nobody is killed: what has no room isn't given")
     order = parser.add_mutually_exclusive_group()
     order.add_argument("--by-number", action="store_true", help="reclaim takes of the groups in the order of the record")
     order.add_argument("--proportional", action="store_true",
                        help="reclaim first takes of each group in proportion to its clean pages (the default without --as-is)")
+
+
+def add_no_kill(parser: argparse.ArgumentParser) -> None:
+    """The choice of those words that also say what wasn't given."""
+    parser.add_argument("--no-kill", action="store_true", help="nobody is killed: what has no room isn't given")
 
 
 def batch_of(size: int) -> int:
@@ -38,4 +42,4 @@ def words_of(options: argparse.Namespace, size: int) -> Tuple[str, ...]:
     if batch is not None and not 1 <= batch <= MOST_BATCH:
         raise Fault(f"--reclaim-batch is 1 to {MOST_BATCH}")
     is_proportional = options.proportional or not (options.as_is or options.by_number)
-    return (*words, *["--no-kill"] * options.no_kill, *["--proportional"] * is_proportional)
+    return (*words, *["--no-kill"] * getattr(options, "no_kill", False), *["--proportional"] * is_proportional)

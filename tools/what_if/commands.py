@@ -13,7 +13,7 @@ from .amounts import Fault, names_text, read_amount
 from .choices import words_of
 from .margins import LINUX, linux_line
 from .options import parsed, restart_of
-from .replay import How, played
+from .replay import How, Replay, played
 from .session import find_program
 from .usage import in_frames, with_settings, without_limits
 
@@ -54,18 +54,26 @@ def write_lines(lines: Iterable[str]) -> None:
         text = text[os.write(1, text):]
 
 
+def status_of(*replays: Replay) -> int:
+    """The status, by whether somebody died who stands for others."""
+    return UNSURE if report.merged_deaths(*replays) else 0
+
+
 def run(call: Call) -> int:
     """Plays a usage, and writes its report or its log."""
     loaded = loading.load(call.options, call.note)
     it = loading.in_zone(loaded, call.remarks)
     how = call.how(it, loaded.flags)
     if call.options.log:
-        write_lines(log.lines(it.usage, how, it.size, call.note))
-        return 0
+        part = log.part_of(it.usage, how, it.size, call.note)
+        write_lines(part.lines)
+        for line in report.merged_lines(part.replay):
+            call.note(line)
+        return status_of(part.replay)
     replay = played(it.usage, how)
     differs = orders.difference(replay)
     write_lines([report.json_line(it, replay, differs)] if call.options.json else report.report(it, replay, differs))
-    return UNSURE if report.merged_deaths(replay) else 0
+    return status_of(replay)
 
 
 def check_least(options: argparse.Namespace) -> None:
@@ -87,6 +95,8 @@ def check_least(options: argparse.Namespace) -> None:
         raise Fault("--kills isn't negative, and doesn't go with --keep-file")
     if options.per is not None and (options.kills is None or options.per == 0):
         raise Fault("--per is more than 0, and goes with --kills")
+    if options.no_kill and (options.kills is not None or options.min_for is not None):
+        raise Fault("--no-kill doesn't go with --kills or --min-for: nobody would be killed, and what wasn't given isn't in them")
     if options.pods and options.format != "k8s":
         raise Fault("--pods goes with --format k8s")
 
@@ -104,7 +114,7 @@ def find_least_min(call: Call) -> int:
     found = least_min.find(it.usage, call.how(it, loaded.flags), sought)
     write_lines([least_min.json_line(it, found, sought, options.margin)] if options.json else
                 least_min.lines(it, found, sought, options.margin))
-    return 0
+    return status_of(found.after)
 
 
 def find_least(call: Call) -> int:
@@ -147,11 +157,10 @@ def find_tight(call: Call) -> int:
     if search.lacks:
         call.note(f"the host lacks {it.text(search.lacks)} and kills whatever the limits are; the least limits are for one "
                   "that has that too")
-    margins = tight.margins(it.usage, how, least.each_least(search, [*limits], call.jobs()))
+    found = tight.find(it.usage, how, least.each_least(search, [*limits], call.jobs()))
     without = len(it.usage.tracks) - 1 - len(limits)
-    write_lines([tight.json_line(it, margins)] if call.options.json else tight.lines(it, margins, without))
-    is_unsure = any(one.group in it.usage.merged and any(seconds is not None for seconds in one.deaths) for one in margins)
-    return UNSURE if is_unsure else 0
+    write_lines([tight.json_line(it, found)] if call.options.json else tight.lines(it, found, without))
+    return status_of(*found.replays)
 
 
 def pack(call: Call) -> int:
@@ -191,13 +200,13 @@ def write_limits(call: Call) -> int:
 
 def compare(call: Call) -> int:
     """Writes two runs side by side."""
-    write_lines(fleet.compare_lines(call.options.before, call.options.after))
+    write_lines(fleet.of_runs(fleet.compare_lines, [call.options.before, call.options.after]))
     return 0
 
 
 def add_up(call: Call) -> int:
     """Writes the sum of many runs."""
-    write_lines(fleet.sum_lines(call.options.runs))
+    write_lines(fleet.of_runs(fleet.sum_lines, call.options.runs))
     return 0
 
 

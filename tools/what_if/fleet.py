@@ -3,14 +3,17 @@ from __future__ import annotations
 
 import json
 from dataclasses import dataclass
-from typing import Any, Dict, Iterator, List, Optional
+from typing import Any, Callable, Dict, Iterator, List, Optional
 
 from .amounts import Fault, amount_text, path_text, seconds_text
 from .files import open_text
+from .orders import stands_text
 from .paths import by_tree
 from .report import table
 
 COLUMNS = ["usage", "groups", "samples", "reclaimed", "kills", "died first"]
+# What two runs have alike, if only their limits are others.
+UNLIKE = ["usage", "samples", "frame_bytes", "choices", "restart_seconds", "is_backoff"]
 COMPARED = ["group", "limit", "then", "kills", "then", "kept file", "then", "reclaimed", "then", "died first"]
 
 
@@ -43,10 +46,21 @@ def objects_of(path: str) -> Iterator[Dict[str, Any]]:
             yield run
 
 
+def of_runs(lines: Callable[[List[str]], Iterator[str]], paths: List[str]) -> List[str]:
+    """The lines about some files' runs; refuses runs of another form, such as those of an older whatif."""
+    try:
+        return [*lines(paths)]
+    except (AttributeError, KeyError, TypeError):
+        raise Fault(f"{', '.join(paths)}: a line is no run --json of this whatif") from None
+
+
 def first_of(run: Dict[str, Any]) -> str:
     """Who died first, and when."""
     first = next(iter(run["kills"]), None)
-    return f"{path_text(first['group'])} at {seconds_text(first['seconds'])}" if first else "-"
+    if first is None:
+        return "-"
+    merged: List[str] = next((group.get("merged", []) for group in run["groups"] if group["group"] == first["group"]), [])
+    return f"{path_text(first['group'])}{stands_text(merged)} at {seconds_text(first['seconds'])}"
 
 
 def sum_lines(paths: List[str]) -> Iterator[str]:
@@ -89,17 +103,17 @@ def pair(one: Optional[Dict[str, Any]], other: Optional[Dict[str, Any]]) -> List
 def only_run(path: str) -> Dict[str, Any]:
     """The one run in a file."""
     runs = [*objects_of(path)]
-    if len(runs) != 1 or any("read_bytes" not in group for run in runs for group in run["groups"]):
-        raise Fault(f"{path}: one line of run --json is due, of this whatif, and there are {len(runs)}")
+    if len(runs) != 1:
+        raise Fault(f"{path}: one line of run --json is due, and there are {len(runs)}")
     return runs[0]
 
 
-def compare_lines(one_path: str, other_path: str) -> Iterator[str]:
+def compare_lines(paths: List[str]) -> Iterator[str]:
     """Two runs side by side: groups in which nothing differs are counted alone."""
-    one, other = only_run(one_path), only_run(other_path)
-    if one["samples"] != other["samples"] or one["frame_bytes"] != other["frame_bytes"]:
-        yield (f"warning: {one['samples']} samples in frames of {amount_text(one['frame_bytes'])} beside {other['samples']} in "
-               f"frames of {amount_text(other['frame_bytes'])}")
+    one, other = map(only_run, paths)
+    for key in UNLIKE:
+        if one.get(key) != other.get(key):
+            yield f"warning: {key}: {json.dumps(one.get(key))}, then {json.dumps(other.get(key))}: not the limits alone differ"
     groups = [{group["group"]: group for group in run["groups"]} for run in (one, other)]
     rows, same = [], 0
     for path in by_tree({**groups[0], **groups[1]}):

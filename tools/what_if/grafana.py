@@ -5,10 +5,12 @@ import csv
 import re
 from typing import Dict, List, Optional, Tuple
 
-from .amounts import Fault, Note
+from .amounts import Fault, Note, names_text
 from .files import open_text
 from .series import Series, kind_of, read_number, read_time
 
+# What a cell has if there is no value.
+NO_VALUE = ("", "-", "nan", "null", "undefined")
 TIMES, VALUES, NAMES = ("time", "timestamp"), ("value",), ("metric", "name", "__name__", "series")
 
 Rows = List[List[str]]
@@ -22,21 +24,28 @@ def labels_of(title: str) -> Tuple[Optional[str], Dict[str, str]]:
     return found[1] or None, dict(re.findall(r'(\w+)="?((?:[^",\\]|\\.)*)"?', found[2]))
 
 
-def wide(rows: Rows, titles: List[str], given: Optional[str]) -> List[Series]:
+def number_of(cell: str, unread: List[str]) -> Optional[int]:
+    """The number of a cell; None if it has none, and then `unread` gets what it has in place of one."""
+    number = read_number(cell)
+    unread += [cell.strip()] * (number is None and cell.strip().lower() not in NO_VALUE)
+    return number
+
+
+def wide(rows: Rows, titles: List[str], given: Optional[str], unread: List[str]) -> List[Series]:
     """The series of columns. A cell without a number has no value."""
     found = []
     for at, title in enumerate(titles[1:], 1):
         name, labels = labels_of(title)
         series = Series(kind_of(name, given), labels)
         for row in rows:
-            number = read_number(row[at])
+            number = number_of(row[at], unread)
             if number is not None:
                 series.add(read_time(row[0]), number)
         found.append(series)
     return found
 
 
-def tall(rows: Rows, titles: List[str], given: Optional[str]) -> List[Series]:
+def tall(rows: Rows, titles: List[str], given: Optional[str], unread: List[str]) -> List[Series]:
     """The series of rows with a time and a value each. The other columns are labels."""
     names = [title.lower() for title in titles]
     time, value = (next(at for at, name in enumerate(names) if name in known) for known in (TIMES, VALUES))
@@ -46,7 +55,7 @@ def tall(rows: Rows, titles: List[str], given: Optional[str]) -> List[Series]:
         title = next((labels.pop(name) for name in NAMES if name in labels), None)
         metric, more = labels_of(title) if title and "{" in title else (title, {})
         labels.update(more)
-        number = read_number(row[value])
+        number = number_of(row[value], unread)
         if number is not None:
             key = (metric, *labels.items())
             if key not in found:
@@ -55,7 +64,7 @@ def tall(rows: Rows, titles: List[str], given: Optional[str]) -> List[Series]:
     return [*found.values()]
 
 
-def read(path: str, given: Optional[str], _: Note) -> List[Series]:
+def read(path: str, given: Optional[str], note: Note) -> List[Series]:
     """The series of a file."""
     with open_text(path) as lines:
         first = lines.readline()
@@ -72,4 +81,8 @@ def read(path: str, given: Optional[str], _: Note) -> List[Series]:
     for number, row in enumerate(rows, 3 if first.startswith("sep=") else 2):
         if len(row) != len(titles):
             raise Fault(f"{path}: line {number}: {len(row)} values, and there are {len(titles)} columns")
-    return (tall if any(name in VALUES for name in names) else wide)(rows, titles, given)
+    unread: List[str] = []
+    found = (tall if any(name in VALUES for name in names) else wide)(rows, titles, given, unread)
+    if unread:
+        note(f"{path}: {len(unread)} cells are no numbers, and are left out: {names_text([*dict.fromkeys(unread)])}")
+    return found

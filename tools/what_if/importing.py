@@ -48,12 +48,15 @@ def read_series(options: argparse.Namespace, note: Note) -> List[Series]:
 
 
 def import_lines(options: argparse.Namespace, note: Note) -> Iterator[str]:
-    """The lines of the usage of some files."""
-    usage = join(read_series(options, note), note)
+    """The lines of the usage of some files. They end with what they lack, so that each report of them can say it."""
+    remarks: List[str] = []
+    usage = join(read_series(options, remarks.append), remarks.append)
     begin = usage.times[0]
-    usage = filled(replace(usage, times=array("d", [time - begin for time in usage.times])), None, note)
-    usage = not_cumulative(usage, note) if FORMATS[options.format].is_cumulative else usage
-    usage = replace(usage, host=read_amount(options.host) if options.host else usage.host)
+    usage = filled(replace(usage, times=array("d", [time - begin for time in usage.times])), None, remarks.append)
+    usage = not_cumulative(usage, remarks.append) if FORMATS[options.format].is_cumulative else usage
+    usage = replace(usage, host=read_amount(options.host) if options.host else usage.host, remarks=remarks)
+    for remark in remarks:
+        note(remark)
     for sign in signs.holes(usage):
         note(sign)
     day = datetime.datetime.fromtimestamp(begin, datetime.timezone.utc)

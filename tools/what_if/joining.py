@@ -3,8 +3,8 @@ nothing of the others."""
 from __future__ import annotations
 
 from array import array
-from dataclasses import dataclass, field, replace
-from typing import Dict, Iterator, List, Optional
+from dataclasses import dataclass, field
+from typing import Dict, Iterator, List, Optional, Set
 
 from .amounts import Fault, Note, names_text, seconds_text
 from .series import COUNTED, MAX, SETTINGS, Series, by_group
@@ -14,20 +14,48 @@ from .usage import NONE, Track, Usage, empty_track, usage_of
 STEPS = 5
 
 
+# What is said of groups whose kinds don't part their memory, and how that counts: else a low answer would look sure.
+NO_SIZE = "no kind has an amount: their settings and counts are left out"
+NO_ANON = "no kind has anonymous memory: it isn't played"
+NOT_SHARED = "neither the cache nor a usage is known: shared memory isn't played"
+SHARED = ("shared memory isn't known: it counts as pages of files, which a limit reclaims; "
+          "container_memory_total_active_file_bytes and _inactive_file_bytes part it")
+WHOLE = ("only {} is known: all of it counts as anonymous, which no limit reclaims; container_memory_rss and _cache, or "
+         "memory.stat, part it")
+WHOLES = {"usage": "the usage", "working_set": "the working set"}
+OF_FILES = {"active_file", "inactive_file"}
+# The kinds beside which the cache is known to be a part of the whole: a working set has none of the inactive one.
+WITH_CACHE = {"rss", "usage", "inactive_file"}
+
+
+def doubt(kinds: Set[str]) -> Optional[str]:
+    """What isn't known of a group that has sizes of these kinds."""
+    wholes = [name for kind, name in WHOLES.items() if kind in kinds]
+    if "anon" in kinds:
+        return None
+    if "rss" not in kinds and not wholes:
+        return NO_ANON
+    if "cache" not in kinds and not wholes:
+        return NOT_SHARED
+    if OF_FILES <= kinds or {"cache", "shmem"} <= kinds and kinds & WITH_CACHE:
+        return None
+    return SHARED if "rss" in kinds or "cache" in kinds and kinds & WITH_CACHE else WHOLE.format(wholes[0])
+
+
 def amount(kinds: Dict[str, int]) -> tuple[int, int]:
     """The anonymous and the file pages that values of these kinds mean. What may not be a page of a file isn't one, so
     shared memory is anonymous where its size can be told."""
-    cache = kinds.get("cache", 0)
-    if "active_file" in kinds and "inactive_file" in kinds:
-        in_files = kinds["active_file"] + kinds["inactive_file"]
-    else:
-        in_files = cache - kinds.get("shmem", 0)
-    if "rss" in kinds:
-        shared = max(0, cache - in_files)
-        of_set = 0 if "cache" in kinds or in_files else kinds.get("working_set", 0) - kinds["rss"]
-        return kinds["rss"] + shared, max(0, in_files, of_set)
+    if "anon" in kinds:
+        return kinds["anon"], kinds.get("file", 0)
     whole = kinds.get("usage", kinds.get("working_set", 0) + kinds.get("inactive_file", 0))
-    return max(0, whole - max(0, in_files)), max(0, in_files)
+    rest = kinds.get("cache", max(0, whole - kinds.get("rss", 0) - kinds.get("kernel", 0)))
+    if OF_FILES <= kinds.keys():
+        in_files = kinds["active_file"] + kinds["inactive_file"]
+    elif "cache" in kinds and ("working_set" not in kinds or kinds.keys() & WITH_CACHE):
+        in_files = max(0, rest - kinds.get("shmem", 0))
+    else:
+        in_files = rest if "rss" in kinds else 0
+    return kinds["rss"] + max(0, rest - in_files) if "rss" in kinds else max(0, whole - in_files), in_files
 
 
 def setting(name: str, number: int) -> Optional[int]:
@@ -56,26 +84,28 @@ class Joining:
     times: "array[float]"
     tracks: Dict[str, Track] = field(default_factory=dict)
     lacks: List[Lack] = field(default_factory=list)
-    of_set_alone: List[str] = field(default_factory=list)
+    doubts: Dict[str, List[str]] = field(default_factory=dict)
 
     def add(self, path: str, kinds: Dict[str, Series]) -> None:
         """A group's track, with a row at each time at which one of its sizes has a value."""
         sizes = {kind: one for kind, one in kinds.items() if kind not in SETTINGS and kind not in COUNTED}
         if not sizes:
+            self.doubts.setdefault(NO_SIZE, []).append(path)
             return
-        if {*sizes} - {"kernel"} == {"working_set"}:
-            self.of_set_alone.append(path)
+        unknown = doubt({*sizes})
+        if unknown:
+            self.doubts.setdefault(unknown, []).append(path)
         own = times_of(list(sizes.values()))
         values = {kind: self.filled(path, one, own) for kind, one in sizes.items()}
         places = {time: at for at, time in enumerate(self.times)}
         track = empty_track(len(self.times))
         # Of a whole usage kernel memory is a part already.
-        if "kernel" in sizes and "rss" in sizes:
+        if "kernel" in sizes and sizes.keys() & {"rss", "anon"}:
             track.kernel = array("q", [NONE]) * len(self.times)
         for at, time in enumerate(own):
             here = {kind: amounts[at] for kind, amounts in values.items() if amounts[at] != NONE}
             track.anon[places[time]], track.file[places[time]] = amount(here)
-            if track.kernel and "rss" in here:
+            if track.kernel and here.keys() & {"rss", "anon"}:
                 track.kernel[places[time]] = here.get("kernel", NONE)
         first, last = places[own[0]], places[own[-1]]
         for kind, name in SETTINGS.items():
@@ -93,8 +123,9 @@ class Joining:
         return low
 
     def add_counted(self, track: Track, kinds: Dict[str, Series], first: int, last: int) -> None:
-        """The kills that the kernel counted, and its peak. A count that falls began anew."""
-        before = None
+        """The kills that the kernel counted, and its peak. A count that falls began anew, and that of a group which came later
+        begins with 0."""
+        before = 0 if first else None
         for time, value in points(kinds.get("oom_kill")):
             if before is not None and (value > before or 0 < value < before):
                 track.oom_kills.append(min(last, max(first, self.place(time))))
@@ -126,9 +157,8 @@ class Joining:
             worst = sorted(self.lacks, key=lambda lack: -lack.span)
             yield (f"{len(worst)} series lack values, so the last ones hold, and none before the first: "
                    f"{'; '.join(lack.text(self.times[0]) for lack in worst[:5])}{'; ..' * (len(worst) > 5)}")
-        if self.of_set_alone:
-            yield (f"of {names_text(self.of_set_alone)} only the working set is known: all of it counts as anonymous, "
-                   "which no limit reclaims; container_memory_rss and _cache part it")
+        for unknown, paths in self.doubts.items():
+            yield f"of {names_text(paths)} {unknown}"
 
 
 def points(one: Optional[Series]) -> list[tuple[float, int]]:
@@ -149,6 +179,9 @@ def join(series: List[Series], note: Note) -> Usage:
     if left_out:
         note(f"{left_out} series have no label pod, and are left out")
     host = max((value for _, value in points(found.get("/", {}).pop("host", None))), default=0) or None
+    empty = [f"{kind} of {path}" for path, kinds in sorted(found.items()) for kind, one in kinds.items() if not one.times]
+    if empty:
+        note(f"{len(empty)} series have no value, and are left out: {names_text(empty)}")
     groups = {path: kinds for path, kinds in sorted(found.items()) if any(one.times for one in kinds.values())}
     sizes = [one for kinds in groups.values() for kind, one in kinds.items() if kind not in SETTINGS and kind not in COUNTED
              and one.times]
@@ -157,9 +190,8 @@ def join(series: List[Series], note: Note) -> Usage:
     joining = Joining(times_of(sizes))
     for path, kinds in groups.items():
         joining.add(path, {kind: one for kind, one in kinds.items() if one.times})
-    remarks = [*joining.remarks()]
-    for remark in remarks:
+    for remark in joining.remarks():
         note(remark)
     if [*joining.tracks] == ["/"]:
         raise Fault("there is only /, and no group whose limit could be another")
-    return replace(usage_of(joining.times, joining.tracks, host), remarks=remarks)
+    return usage_of(joining.times, joining.tracks, host)

@@ -7,7 +7,7 @@ from collections import Counter
 from dataclasses import dataclass
 from typing import Any, Callable, Dict, Iterator, List, Optional, Set
 
-from .amounts import Fault, read_amount, whole_bytes
+from .amounts import Fault, read_amount, whole_bytes, within_reach
 from .files import read_json
 
 POWERS: Dict[str, int] = {"": 1, **{unit: 1000 ** power for power, unit in enumerate("kMGTPE", 1)},
@@ -24,12 +24,12 @@ def quantity(word: Any) -> int:
     """The bytes of a quantity as Kubernetes writes it, in which M is a million, Mi is 1,048,576 and m a thousandth."""
     thousandths = re.fullmatch(r"([0-9]+)m", str(word))
     if thousandths:
-        return whole_bytes(int(thousandths[1]), str(word))
-    found = re.fullmatch(r"([0-9]+\.?[0-9]*|\.[0-9]+)(?:([kMGTPE]|[KMGTPE]i)|[eE]([+-]?[0-9]+))?", str(word))
+        return within_reach(whole_bytes(int(thousandths[1]), str(word)), str(word))
+    found = re.fullmatch(r"([0-9]+\.?[0-9]*|\.[0-9]+)(?:([kMGTPE]|[KMGTPE]i)|[eE]([+-]?[0-9]{1,3}))?", str(word))
     if not found:
         raise Fault(f"'{word}' is no quantity of Kubernetes")
     power = decimal.Decimal(10) ** int(found[3]) if found[3] else decimal.Decimal(POWERS[found[2] or ""])
-    return int((decimal.Decimal(found[1]) * power).to_integral_value(decimal.ROUND_CEILING))
+    return within_reach(int((decimal.Decimal(found[1]) * power).to_integral_value(decimal.ROUND_CEILING)), str(word))
 
 
 @dataclass(frozen=True)

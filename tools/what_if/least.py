@@ -101,8 +101,8 @@ class Search:
         self.wanted, self.needed = greatest_wanted(usage), needed(usage)
         host = usage.host or 0
         self.base = played(usage, how, survives)
-        # A host that kills without any other limit is too small for all, and each is sought on one that is large enough.
-        self.lacks = max(1, self.needed["/"] - host) if self.base.deaths else 0
+        # A host without room for all without any other limit is too small, and each is sought on one that is large enough.
+        self.lacks = 0 if survives(self.base) else max(1, self.needed["/"] - host)
         if self.lacks:
             usage = replace(usage, host=max(host + self.lacks, self.wanted["/"]))
             self.base = played(usage, how, survives)

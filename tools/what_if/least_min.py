@@ -12,7 +12,7 @@ from .margins import with_percent
 from .orders import reversed_usage
 from .paths import by_tree, is_below, path_up
 from .replay import How, Replay, always, played
-from .report import Played, death_text, first_deaths, table
+from .report import Played, death_text, first_deaths, merged_lines, table
 from .usage import Usage, greatest_wanted, setting_word, with_settings
 
 
@@ -114,7 +114,7 @@ def lines(it: Played, found: Found, sought: Sought, margin: float) -> Iterator[s
     frames = found.least(sought.group)
     if frames is None:
         yield f"# no memory.min of {sought.group} keeps {what}, not even that of its peak:"
-        yield from (f"# {reason}" for reason in reasons(found, sought, it))
+        yield from (f"# {reason}" for reason in [*reasons(found, sought, it), *merged_lines(found.after)])
         yield from order_line(found, sought, it)
         return
     least, deaths = amount_text(frames * it.size), first_deaths(found.after)
@@ -123,7 +123,7 @@ def lines(it: Played, found: Found, sought: Sought, margin: float) -> Iterator[s
              death_text(deaths.get(path))] for path in by_tree(found.after.groups)]
     yield from (f"# {line}" for line in table([["group", "min 0", f"min {least}", "died"], *rows]))
     yield from order_line(found, sought, it)
-    yield from (f"# {line}" for line in it.hidden)
+    yield from (f"# {line}" for line in [*merged_lines(found.after), *it.hidden])
     yield from (f"{path} min {setting_word(value)}" for path, value in in_bytes(found, it, margin).items())
 
 
@@ -141,4 +141,4 @@ def json_line(it: Played, found: Found, sought: Sought, margin: float) -> str:
                     "died_first_seconds": deaths[path].seconds if path in deaths else None,
                     "died_first_by": deaths[path].limit.path if path in deaths else None}
                    for path in by_tree(found.after.groups)],
-        "remarks": [*it.hidden, *it.remarks]})
+        "remarks": [*merged_lines(found.after), *it.hidden, *it.remarks]})

@@ -24,7 +24,7 @@ class Answer:
 
 def in_bytes(it: Played, limits: Dict[str, int], margin: Margin) -> Dict[str, int]:
     """The limits in bytes: none below one that killed in the record."""
-    least = censored.floors(it.killed)
+    least = censored.floors(it.usage)
     return {path: max(limit, least.get(path, 0))
             for path, limit in margins.with_margin(it.usage, it.size, limits, margin).items()}
 
@@ -47,7 +47,7 @@ def cells(answer: Answer, least: Least) -> List[str]:
     it = answer.it
     few = [] if least.few_kills is None else [it.bytes_of(least.few_kills)]
     amounts = [it.bytes_of(least.wanted), it.bytes_of(least.survives), on_linux(it, least), *few, it.bytes_of(least.keeps)]
-    mark = "at least " if censored.marked(it.killed, least.group) else ""
+    mark = "at least " if censored.marked(it.usage, least.group) else ""
     return [path_text(least.group), *("-" if amount is None else mark + amount_text(amount) for amount in amounts)]
 
 
@@ -81,7 +81,7 @@ def json_line(answer: Answer) -> str:
     def of(least: Least) -> Dict[str, Any]:
         return {"group": least.group, "wanted_bytes": it.bytes_of(least.wanted), "survives_bytes": it.bytes_of(least.survives), "linux_bytes": on_linux(it, least),
                 "few_kills_bytes": it.bytes_of(least.few_kills), "keeps_file_bytes": it.bytes_of(least.keeps),
-                "is_at_least": censored.marked(it.killed, least.group), "limit_bytes": answer.limits.get(least.group)}
+                "is_at_least": censored.marked(it.usage, least.group), "limit_bytes": answer.limits.get(least.group)}
 
     percent = None if answer.margin == margins.LINUX else answer.margin
     return json.dumps({**it.as_json(), "margin_percent": percent, "raised": found.raised,

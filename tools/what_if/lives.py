@@ -22,7 +22,7 @@ class Restart:
 
     def wait(self, kills: int) -> float:
         """How long it stays away after so many kills in a row."""
-        return min(LONGEST, FIRST * 2.0 ** (kills - 1)) if self.is_backoff else self.seconds
+        return min(LONGEST, FIRST * 2.0 ** min(kills - 1, 9)) if self.is_backoff else self.seconds
 
     def text(self) -> str:
         """As a sentence names it."""

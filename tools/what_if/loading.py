@@ -31,7 +31,7 @@ def recorded(options: argparse.Namespace, path: str, note: Note) -> Usage:
     for remark in usage.remarks:
         note(f"{path}: {remark}")
     usage = prepare.filled(usage, options.gap, note, "; with --gap 0 it has nothing then")
-    return with_kernel(prepare.not_cumulative(usage, note) if options.cumulative else usage)
+    return censored.with_killed(with_kernel(prepare.not_cumulative(usage, note) if options.cumulative else usage))
 
 
 def read_given(options: argparse.Namespace, groups: List[str], note: Note) -> Limits:
@@ -76,16 +76,15 @@ def in_zone(loading: Loading, remarks: List[str]) -> Played:
     """The usage in frames, and what is to be known of it. A frame is small beside the least limit."""
     options, host = loading.options, host_of(loading)
     size = read_amount(options.frame) if options.frame else frame_size(host, least_limit(loading.usage))
-    if not 0 < host // max(size, 1) <= MOST_FRAMES:
+    if size < 1 or not 0 < host // size <= MOST_FRAMES:
         raise Fault(f"the host has {amount_text(host)}, and a zone 1 to {MOST_FRAMES} frames: another --frame or "
                     "--host is due")
     check_count(loading.usage, loading.name)
     usage = replace(loading.usage, host=host)
     for sign in signs.all_of(usage, host, size, options.cumulative):
         loading.note(sign)
-    killed = censored.censored(usage)
     played = in_frames(with_starts(censored.with_kills(usage, size)), size)
-    return Played(loading.name, played, size, killed, censored.lines(usage, killed), remarks)
+    return Played(loading.name, played, size, censored.lines(usage), remarks)
 
 
 def check_groups(option: str, groups: Iterable[str], usage: Usage) -> None:

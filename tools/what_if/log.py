@@ -4,15 +4,15 @@ from __future__ import annotations
 
 import re
 from array import array
-from dataclasses import replace
+from dataclasses import dataclass, replace
 from typing import Iterator, List, Optional
 
 from .amounts import Fault, Note, amount_text, seconds_text
 from .replay import How, Replay, played, start
 from .usage import DEFAULTS, Setting, Track, Usage, with_tracks
 
-# How many samples come before the first death, if not all can.
-BEFORE = 20
+# How many samples come before the first death, if not all can: fewer if there is no room for these.
+BEFORE = (20, 10, 5, 2, 1, 0)
 
 
 def with_seconds(log: str, script: List[str]) -> Iterator[str]:
@@ -25,16 +25,32 @@ def with_seconds(log: str, script: List[str]) -> Iterator[str]:
         yield line
 
 
-def kept(usage: Usage, how: How, samples: int) -> Optional[List[str]]:
-    """The lines of the log of the first so many samples, if the script isn't too long."""
+@dataclass(frozen=True)
+class Part:
+    """The lines of a log, and the replay of what they are of."""
+    lines: List[str]
+    replay: Replay
+
+
+def room(usage: Usage, how: How) -> int:
+    """How many samples a log has room for."""
+    with start(usage, how, is_kept=True) as session:
+        replay = Replay(session, usage, how)
+        for sample in range(len(usage.times)):
+            replay.play(sample)
+            session.flush()
+            if session.is_too_long():
+                return sample
+        return len(usage.times)
+
+
+def kept(usage: Usage, how: How, samples: int) -> Part:
+    """The log of the first so many samples."""
     with start(usage, how, is_kept=True) as session:
         replay = Replay(session, usage, how)
         for sample in range(samples):
             replay.play(sample)
-            if session.is_too_long():
-                return None
-        log = session.log()
-        return None if log is None else [*with_seconds(log, session.script or [])]
+        return Part([*with_seconds(session.log(), session.script or [])], replay)
 
 
 def since(usage: Usage, sample: int) -> Usage:
@@ -63,20 +79,19 @@ def first_moment(usage: Usage, how: How) -> int:
     return max(range(len(usage.times)), key=lambda at: sum(track.total(at) for track in usage.tracks.values()))
 
 
-def lines(usage: Usage, how: How, size: int, note: Note) -> List[str]:
-    """The log, whole if it can be, and else from shortly before the first death on, for as many samples as there is room. Its
-    first comment says from when."""
-    whole = kept(usage, how, len(usage.times))
-    if whole is not None:
-        return whole
-    begin = max(0, first_moment(usage, how) - BEFORE)
-    part, count = since(usage, begin), len(usage.times) - begin
-    while count > 0:
-        log = kept(part, how, count)
-        if log is not None:
+def part_of(usage: Usage, how: How, size: int, note: Note) -> Part:
+    """The log, whole if it can be, and else from shortly before the first death on, for as many samples as there is room, at
+    least up to that death. Its first comment says from when."""
+    if room(usage, how) == len(usage.times):
+        return kept(usage, how, len(usage.times))
+    moment = first_moment(usage, how)
+    for before in BEFORE:
+        begin = max(0, moment - before)
+        part = since(usage, begin)
+        count = room(part, how)
+        if begin + count > moment:
             note(f"the whole script is too long for a log, so this one is from {seconds_text(part.times[0])} to "
                  f"{seconds_text(part.times[count - 1])}, and begins with the groups, limits and usages of then")
-            return log
-        count //= 2
+            return kept(part, how, count)
     raise Fault(f"the script of one sample's log is too long, with frames of {amount_text(size)}: a greater --frame makes it "
                 "shorter")

@@ -14,9 +14,9 @@ Margin = Union[float, str]
 # What was enough beside Linux 6.1 and 6.12, as docs/KERNEL.md shows: bytes a process, and thousandths of the limit and of the
 # greatest file pages.
 OF_PROCESS, OF_LIMIT, OF_FILES = 224 << 10, 3, 6
-# If kernel memory was recorded: bytes, and thousandths of the file pages. Slabs for these are reclaimed late; with a memory.min
-# of half the file pages 128 KiB weren't enough.
-ALWAYS, OF_KNOWN_FILES = 192 << 10, 3
+# If kernel memory was recorded: bytes, and thousandths of the file pages, since slabs for these are reclaimed late. Those for
+# file pages that memory.min protects aren't reclaimed: beside a block device they were 3 %.
+ALWAYS, OF_KNOWN_FILES, OF_PROTECTED = 192 << 10, 3, 30
 
 
 def read_margin(word: str) -> Margin:
@@ -42,12 +42,20 @@ def tracks_below(usage: Usage, path: str) -> List[Track]:
     return [track for each, track in usage.tracks.items() if is_below(each, path) and track.most()]
 
 
+def protected(usage: Usage, path: str) -> int:
+    """The greatest file pages of the groups that have, or are below one that has, a memory.min which a group's limit keeps."""
+    keeping = [each for each, track in usage.tracks.items()
+               if is_below(each, path) and each != path and any(one.value != 0 for one in track.settings.get("min", []))]
+    return sum(max(track.file) for each, track in usage.tracks.items()
+               if track.most() and any(is_below(each, above) for above in keeping))
+
+
 def for_linux(usage: Usage, size: int, path: str, limit: int) -> int:
     """A limit of frames of this size in bytes, with what Linux takes, in whole pages."""
     tracks = tracks_below(usage, path)
     files = sum(max(track.file) for track in tracks)
     lacking = [track for track in tracks if track.most_kernel is None]
-    more, parts = ALWAYS, files * OF_KNOWN_FILES
+    more, parts = ALWAYS, files * OF_KNOWN_FILES + protected(usage, path) * OF_PROTECTED
     if lacking:
         more, parts = OF_PROCESS * sum(track.pids or 1 for track in lacking), limit * OF_LIMIT + files * OF_FILES
     return limit * size + -(-(more + parts * size // 1000) // PAGE) * PAGE

@@ -105,6 +105,7 @@ def add_jobs(parser: argparse.ArgumentParser) -> None:
 def add_run(parser: argparse.ArgumentParser) -> None:
     """The options of `run`."""
     add_common(parser)
+    choices.add_no_kill(parser)
     add_limits(parser, "lines GROUP VALUE, GROUP high|low|min VALUE and GROUP oom.group")
     parser.add_argument("--reread", action="store_true", help="reclaimed file pages are read again at the next sample")
     output = parser.add_mutually_exclusive_group()
@@ -116,6 +117,7 @@ def add_run(parser: argparse.ArgumentParser) -> None:
 def add_least(parser: argparse.ArgumentParser) -> None:
     """The options of `least`."""
     add_common(parser)
+    choices.add_no_kill(parser)
     add_jobs(parser)
     parser.add_argument("--group", metavar="G", nargs="+", help="these groups alone")
     parser.add_argument("--min-for", metavar="G", help="find the least memory.min that keeps the file pages of this group")

@@ -7,6 +7,7 @@ from bisect import bisect_right
 from dataclasses import replace
 from typing import Dict, Iterator, List, Tuple
 
+from .censored import with_killed
 from .least import bisect, needed
 from .paths import plain
 from .replay import How, Replay, played
@@ -40,7 +41,7 @@ def spread(track: Track, places: List[int]) -> Track:
 def packed(records: List[Tuple[str, Usage]], host: int) -> Usage:
     """All groups of some records below one host, from the first sample of each on. If two records have a group of one name,
     each record's are below a group of its own."""
-    paths = [path for _, usage in records for path in usage.tracks if path != "/"]
+    paths = [path for _, usage in records for path, track in usage.tracks.items() if path != "/" or track.most()]
     is_apart = len(set(paths)) == len(paths)
     begun = [array("d", [time - usage.times[0] for time in usage.times]) for _, usage in records]
     times = array("d", sorted({round(time, 3) for each in begun for time in each}))
@@ -52,7 +53,7 @@ def packed(records: List[Tuple[str, Usage]], host: int) -> Usage:
                 continue
             into = path if is_apart else f"/{name}{path}".rstrip("/")
             tracks[into] = spread(track, places)
-    return usage_of(times, tracks, host)
+    return with_killed(usage_of(times, tracks, host))
 
 
 def kills_nobody(replay: Replay) -> bool:

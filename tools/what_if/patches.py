@@ -31,6 +31,8 @@ def need_of(container: Container, limit: int) -> str:
         return "it had no limit: Kubernetes 1.33 needs a new pod"
     if limit < container.limit:
         return f"lowered from {container.limit}: Kubernetes 1.33 needs a new pod"
+    if container.request == container.limit:
+        return "in place, but not alone in a Guaranteed pod: its request has to be raised too"
     return "in place"
 
 
@@ -42,7 +44,7 @@ def patch_of(path: str, limit: int, pods: Optional[List[Pod]]) -> Iterator[str]:
         what = "it is no /POD/CONTAINER" if len(names) != 2 else "no pod in the file has it"
         yield f"# left out, since {what}: {path} {limit}"
         return
-    space = ""
+    space, kind = "", "containers"
     if container is not None:
         try:
             yield f"# {path}: {need_of(container, limit)}"
@@ -50,7 +52,8 @@ def patch_of(path: str, limit: int, pods: Optional[List[Pod]]) -> Iterator[str]:
             raise Fault(f"{path}: {fault}") from None
         pod = next(pod for pod in pods or () if pod.path == f"/{names[0]}")
         names[0], space = pod.name, f" --namespace {shlex.quote(pod.namespace)}"
-    patch = {"spec": {"containers": [{"name": names[1], "resources": {"limits": {"memory": str(limit)}}}]}}
+        kind = "initContainers" if container.is_sidecar else kind
+    patch = {"spec": {kind: [{"name": names[1], "resources": {"limits": {"memory": str(limit)}}}]}}
     yield (f"kubectl patch pod {shlex.quote(names[0])}{space} --subresource resize "
            f"--patch {shlex.quote(json.dumps(patch))}")
 

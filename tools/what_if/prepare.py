@@ -138,7 +138,7 @@ def with_added(track: Track, other: Track) -> Track:
 
     is_known = track.most_kernel is not None and other.most_kernel is not None
     return replace(track, anon=both(track.anon, other.anon), file=both(track.file, other.file),
-                   oom_kills=sorted({*track.oom_kills, *other.oom_kills}), pids=(track.pids or 1) + (other.pids or 1),
+                   pids=(track.pids or 1) + (other.pids or 1),
                    most_kernel=(track.most_kernel or 0) + (other.most_kernel or 0) if is_known else None)
 
 

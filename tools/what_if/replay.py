@@ -10,7 +10,7 @@ from .explanations import Line, read_line
 from .lives import CALM, Life, Restart, start_before
 from .paths import from_node, is_below, path_up, to_node
 from .session import Session
-from .usage import DEFAULTS, Usage
+from .usage import DEFAULTS, MOST_FRAMES, Usage
 
 # The zone has more frames than the limit of /node, so that a CPU's list never leaves it empty: that would kill nobody.
 SPARE = 16
@@ -325,7 +325,11 @@ class Replay:
             group.settings[kind] = value
             if kind in ("max", "high"):
                 self.send_touches(self.below[group.path])
-            self.note(self.session.ask([group.line_of(kind)])[0], None)
+            line = group.line_of(kind)
+            answer = self.session.ask([line])[0]
+            if answer.partition("\n")[0] != "ok":
+                raise Fault(f"memcg answered '{answer.partition(chr(10))[0]}' to '{line}'")
+            self.note(answer, None)
 
     def fall(self, group: Group, pages: List[Optional[int]], wanted: int) -> None:
         """The newest pages are released, until no more are there than wanted."""
@@ -453,6 +457,9 @@ class Replay:
 
 def start(usage: Usage, how: How, is_kept: bool = False) -> Session:
     """A session for a usage in frames."""
+    if (usage.host or 0) > MOST_FRAMES:
+        raise Fault(f"all groups together need {usage.host} frames, and a zone has at most {MOST_FRAMES}: a greater --frame is "
+                    "due")
     return Session(how.memcg, (usage.host or 0) + SPARE, how.choices, is_kept)
 
 

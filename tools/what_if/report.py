@@ -26,7 +26,6 @@ class Played:
     name: str
     usage: Usage
     size: int
-    killed: Dict[str, censored.Censored] = field(default_factory=dict)
     hidden: List[str] = field(default_factory=list)
     remarks: List[str] = field(default_factory=list)
 
@@ -72,9 +71,9 @@ def first_deaths(replay: Replay) -> Dict[str, Death]:
     return {death.group.path: death for death in reversed(replay.deaths)}
 
 
-def merged_deaths(replay: Replay) -> List[str]:
+def merged_deaths(*replays: Replay) -> List[str]:
     """The groups that died and into which others were merged: who of these would die isn't known."""
-    return [path for path in first_deaths(replay) if path in replay.usage.merged]
+    return [*dict.fromkeys(path for replay in replays for path in first_deaths(replay) if path in replay.usage.merged)]
 
 
 def group_row(it: Played, group: Group, wanted: int, death: Optional[Death], kinds: List[str],
@@ -86,7 +85,7 @@ def group_row(it: Played, group: Group, wanted: int, death: Optional[Death], kin
     if "low" in kinds:
         settings["low"] += [str(group.times_broken)]
     more = [f"{group.kills}"] if is_restarted else []
-    least = "at least " if censored.marked(it.killed, group.path) else ""
+    least = "at least " if censored.marked(it.usage, group.path) else ""
     return [path_text(group.path), least + it.text(wanted), it.text(group.peak),
             *[word for words in settings.values() for word in words], str(group.times_without_room),
             it.text(group.reclaimed), *more, death_text(death)]
@@ -157,10 +156,10 @@ def life_lines(replay: Replay) -> Iterator[str]:
                    "lived: what it had of its own then isn't played")
 
 
-def merged_lines(replay: Replay) -> Iterator[str]:
-    """What stands for others."""
-    for path in merged_deaths(replay):
-        names = replay.usage.merged[path]
+def merged_lines(*replays: Replay) -> Iterator[str]:
+    """What died and stands for others."""
+    for path in merged_deaths(*replays):
+        names = replays[0].usage.merged[path]
         yield (f"{path} stands for {len(names)} merged groups: {names_text(names, 64)}. Who of them would be killed isn't "
                "known; a greater --top says it")
 
@@ -170,7 +169,7 @@ def last_line(it: Played, replay: Replay) -> str:
     spared = " that memory.min doesn't protect" if groups_with(it.usage, "min") else ""
     if not replay.deaths:
         refused = f"; {replay.refused} allocations were refused" if replay.refused else ""
-        killed = f"; but the kernel killed {names_text([*it.killed])} in the record: see above" if it.killed else ""
+        killed = f"; but the kernel killed {names_text([*it.usage.killed])} in the record: see above" if it.usage.killed else ""
         return (f"survived: no group died, and {it.text(replay.groups['/'].reclaimed)} of file pages were "
                 f"reclaimed{refused}{killed}")
     first = replay.deaths[0]
@@ -178,8 +177,7 @@ def last_line(it: Played, replay: Replay) -> str:
     why = f"{asker.path} asked for a frame" if asker else "it was written below the usage"
     after = ("; the dead stayed dead: --restart brings them back" if replay.how.restart is None else
              f"; {len(replay.deaths)} kills in all")
-    merged = replay.usage.merged.get(first.group.path, [])
-    stands = f" (for {len(merged)} merged groups, so it isn't known who)" if merged else ""
+    stands = orders.stands_text(replay.usage.merged.get(first.group.path, []))
     return (f"died first: {first.group.path}{stands} at {seconds_text(first.seconds)}, by the limit of {limit.path}: "
             f"{why}, and no file page below {limit.path}{spared} was left to reclaim{after}")
 
@@ -213,7 +211,7 @@ def report(it: Played, replay: Replay, differs: Optional[orders.Difference]) -> 
 def group_object(it: Played, group: Group, wanted: int, replay: Replay, death: Optional[Death]) -> Dict[str, Any]:
     """A group as JSON has it."""
     times = replay.usage.times
-    killed = it.killed.get(group.path)
+    killed = it.usage.killed.get(group.path)
     return {"group": group.path, "wanted_bytes": wanted * it.size, "usage_bytes": group.peak * it.size,
             "limit_bytes": it.bytes_of(group.settings["max"]), "times_without_room": group.times_without_room,
             "first_without_room_seconds": group.first_without_room,
@@ -223,7 +221,7 @@ def group_object(it: Played, group: Group, wanted: int, replay: Replay, death: O
             "read_bytes": group.read * it.size, "reclaimed_bytes": group.reclaimed * it.size, "kills": group.kills,
             "samples_away": group.times_away, "lives_from_seconds": [times[at] for at in sorted(group.starts)],
             "killed_while_recorded": killed.count if killed else 0,
-            "is_at_least": censored.marked(it.killed, group.path), "merged": replay.usage.merged.get(group.path, []),
+            "is_at_least": censored.marked(it.usage, group.path), "merged": replay.usage.merged.get(group.path, []),
             "died_first_seconds": death and death.seconds, "died_first_by": death and death.limit.path}
 
 

@@ -9,7 +9,7 @@ from collections import Counter
 from dataclasses import dataclass, field
 from typing import Any, Dict, Iterable, List, Optional, Set, Tuple
 
-from .amounts import Fault, names_text
+from .amounts import MOST, Fault, names_text
 from .kubernetes import pod_path
 from .paths import check_path, plain
 
@@ -24,7 +24,7 @@ KINDS = {"container_memory_rss": "rss", "container_memory_cache": "cache", "cont
 KIND_NAMES = ["rss", "cache", "usage", "working_set", "limit", "active_file", "inactive_file", "shmem", "kernel", "host",
               "oom_kill", "peak", "pids"]
 # The kinds that are settings. From MAX on a number means `max`: version 1 writes such a limit if there is none.
-SETTINGS, MAX = {"limit": "max", "high": "high", "low": "low", "min": "min"}, 1 << 60
+SETTINGS, MAX = {"limit": "max", "high": "high", "low": "low", "min": "min"}, MOST
 # The kinds that the kernel counts or keeps.
 COUNTED = ("oom_kill", "peak", "pids")
 UNITS = {"": 1, "B": 1,
@@ -42,10 +42,11 @@ class Series:
 
     def add(self, time: float, value: int) -> None:
         """A value."""
-        if value < 0:
-            raise Fault(f"{self.kind} of {', '.join(self.labels.values())} has the value {value}, and memory isn't negative")
+        if value < 0 or value >= MAX and self.kind not in SETTINGS:
+            what = "memory isn't negative" if value < 0 else "no host has so much"
+            raise Fault(f"{self.kind} of {', '.join(self.labels.values())} has the value {value}, and {what}")
         self.times.append(time)
-        self.values.append(value)
+        self.values.append(min(value, MAX))
 
 
 def read_number(word: Any) -> Optional[int]:
@@ -63,7 +64,7 @@ def read_time(word: Any) -> float:
     try:
         seconds = float(word)
         seconds = seconds / 1000 if seconds >= 1e11 else seconds
-    except ValueError:
+    except (TypeError, ValueError):
         seconds = iso_seconds(str(word).strip())
     if not 0 <= seconds < 1e11:
         raise Fault(f"'{word}' is no time: seconds, or as 2026-01-31T12:00:00Z")

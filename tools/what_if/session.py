@@ -126,11 +126,9 @@ class Session:
         """Whether the lines that are kept are too many for a script."""
         return self.script_bytes > MOST_SCRIPT
 
-    def log(self) -> Optional[str]:
-        """The log that `replay --steps` writes of the lines that were asked; None if they are too many for a script."""
+    def log(self) -> str:
+        """The log that `replay --steps` writes of the lines that were asked."""
         self.flush()
-        if self.is_too_long():
-            return None
         script = "".join(f"{line}\n" for line in self.script or ())
         ran = subprocess.run([self.memcg, "replay", "--steps", *self.words], input=script,
                              stdout=subprocess.PIPE, stderr=subprocess.PIPE, universal_newlines=True, check=False)

@@ -3,9 +3,12 @@ from __future__ import annotations
 
 from array import array
 from dataclasses import dataclass, field, replace
-from typing import Callable, Dict, Iterable, List, Optional, Set
+from typing import TYPE_CHECKING, Callable, Dict, Iterable, List, Optional, Set
 
 from .paths import is_below, path_up, with_ancestors
+
+if TYPE_CHECKING:
+    from .censored import Censored
 
 # The settings of a group, and what each is if nothing else was recorded; None is `max`.
 DEFAULTS: Dict[str, Optional[int]] = {"max": None, "high": None, "low": 0, "min": 0}
@@ -83,6 +86,8 @@ class Usage:
     merged: Dict[str, List[str]] = field(default_factory=dict)
     # What the record lacks, as the import of it found.
     remarks: List[str] = field(default_factory=list)
+    # The groups that were killed while they were recorded, also those that were merged.
+    killed: Dict[str, Censored] = field(default_factory=dict)
 
     @property
     def groups(self) -> List[str]:

@@ -7,7 +7,7 @@ from array import array
 from dataclasses import dataclass, field, replace
 from typing import Callable, Dict, Iterable, Iterator, List, Optional, Tuple
 
-from .amounts import Fault, seconds_text
+from .amounts import Fault, seconds_text, within_reach
 from .files import open_text
 from .paths import MOST_GROUPS, check_path
 from .usage import DEFAULTS, NONE, Track, Usage, groups_with, setting_word, usage_of
@@ -26,7 +26,7 @@ def whole_number(word: str, name: str) -> int:
         raise Fault(f"{name} is negative: {word}")
     if not (word.isascii() and word.isdigit()):
         raise Fault(f"{name} is no whole number of bytes: '{word}'; {REMEDY}")
-    return int(word)
+    return within_reach(int(word), word)
 
 
 def read_setting(word: str, name: str) -> Optional[int]:
@@ -101,7 +101,8 @@ class Reading:
         if name in ("peak", "pids"):
             setattr(track, name, max(number, getattr(track, name) or 0))
             return
-        before = self.counts.get(path, number)
+        # A group that came later had no kills before it came.
+        before = self.counts.get(path, 0 if track.anon[0] == NONE else number)
         if number > before or number and number < before:
             track.oom_kills.append(at)
         self.counts[path] = number
@@ -175,4 +176,4 @@ def usage_lines(usage: Usage) -> Iterator[str]:
                     "kernel": track.kernel[at] if track.kernel and track.kernel[at] != NONE else None}
             yield ",".join([f"{seconds:.3f}", path, str(max(0, track.anon[at])), str(max(0, track.file[at])), *words,
                             *("" if more[name] is None else str(more[name]) for name in counted)])
-    yield from (f"# {remark}" for remark in usage.remarks)
+    yield from ("# " + remark.replace("\n", " ").replace('"', "'") for remark in usage.remarks)
