@@ -170,7 +170,7 @@ impl Checker {
     {
         let free = Vec::with_capacity(alloc, config.frames as usize)?;
         let areas = FreeAreas::new(alloc, config.frames)?;
-        let rows = Rows::new(alloc, config.frames, config.cpus)?;
+        let rows = Rows::new(alloc, config.frames, config.cpus, config.choices.groups)?;
         Ok(Checker {
             rows,
             free,

@@ -56,7 +56,7 @@ impl Core {
         let accounts = new_accounts(alloc)?;
         let mut free = Vec::with_capacity(alloc, config.frames as usize)?;
         let mut areas = FreeAreas::new(alloc, config.frames)?;
-        let rows = Rows::new(alloc, config.frames, config.cpus)?;
+        let rows = Rows::new(alloc, config.frames, config.cpus, config.choices.groups)?;
         set_areas(&rows, &mut free, &mut areas);
         Ok(Core {
             rows,
