@@ -1,6 +1,6 @@
 //! Rows on which no step was made, which show the state at boot, and which frames are free.
 
-ghost use Rattle.std.specs.Prelude.{◌≡◌, ◌≤◌, ◌+◌, ◌×◌, IfOk, All, vec_capacity, vec_len, replicate, false};
+ghost use Rattle.std.specs.Prelude.{◌≡◌, ◌≤◌, ◌+◌, IfOk, All, vec_capacity, vec_len, replicate, false};
 ghost use Rattle.group_tree.specs.Bounds.{most_groups};
 ghost use Rattle.step_rules.specs.State.{at_boot, free_in};
 ghost use Rattle.zone_blocks.specs.Config.{most_cpus, most_frames};

@@ -33,6 +33,9 @@ impl Choices {
     /// The most pages that a round may have to want.
     pub const MAX_RECLAIM_BATCH: u32 = 64;
 
+    /// The most groups that a zone may have room for.
+    pub const MAX_GROUPS: u32 = MAX_GROUPS as u32;
+
     /// Whether every choice is in its range.
     pub fn is_valid(&self) -> bool
         ensures { IsTrue result ↔ AreValidChoices self.now }
@@ -40,6 +43,6 @@ impl Choices {
         1 <= self.reclaim_batch
             && self.reclaim_batch <= Choices::MAX_RECLAIM_BATCH
             && 1 <= self.groups
-            && self.groups <= MAX_GROUPS as u32
+            && self.groups <= Choices::MAX_GROUPS
     }
 }
