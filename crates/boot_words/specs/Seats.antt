@@ -14,17 +14,16 @@ use Rattle.boot_words.specs.Tables.{KnownTable}
 
 -- the zone of a table
 abbrev pub zone_of_boot : KnownTable → Zone
-zone_of_boot t = record { frames = t.frames; cpus = t.cpus }
+zone_of_boot t = record { frames = t.frames; cpus = t.cpus; groups = t.choices.groups }
 
--- the table has all words of these frames and CPUs, and no slot; its rule counts them; there is a frame and a CPU
-pub record HasBootLayout (table : TableId) (rule_frames rule_cpus frames cpus : ℕ) : Type 0 where
-  pub words_are : table.words ≡ word_count (record { frames = frames; cpus = cpus })
+-- the table has all words of the zone, and no slot; its rule is of that zone, which has a frame and a CPU
+pub record HasBootLayout (table : TableId) (ruled zone : Zone) : Type 0 where
+  pub words_are : table.words ≡ word_count zone
   pub slots_are : table.slots ≡ 0
-  pub frames_are : rule_frames ≡ frames
-  pub cpus_are : rule_cpus ≡ cpus
-  pub some_frame : 1 ≤ frames
-  pub some_cpu : 1 ≤ cpus
-  pub few_cpus : cpus ≤ 64
+  pub zone_is : ruled ≡ zone
+  pub some_frame : 1 ≤ zone.frames
+  pub some_cpu : 1 ≤ zone.cpus
+  pub few_cpus : zone.cpus ≤ 64
 
 -- where the word is
 abbrev pub word_place : Zone → Word → ℕ

@@ -22,18 +22,19 @@ use zone_blocks::choices::Choices;
 /// The pasts of a seat: its own, or none while that is with the zone's seat.
 pub(crate) type Pasts = LinkedList<Past>;
 
-/// The numbers of frames and CPUs, for the table's whole life.
+/// The sizes of the zone, for the table's whole life.
 #[derive(Clone, Copy)]
 pub struct TableKey {
     pub frames: u32,
     pub cpus: u32,
+    pub groups: u32,
 }
 
 /// What holds of the table before and after each access.
 pub struct OneRun;
 
 impl TableRule<(), Pasts, TableKey> for OneRun {
-    ghost holds = { λ key. run_rule (record { frames = key.frames; cpus = key.cpus }) };
+    ghost holds = { λ key. run_rule (record { frames = key.frames; cpus = key.cpus; groups = key.groups }) };
 
     ghost first = { λ key. all_pasts key.cpus };
 }
@@ -111,8 +112,13 @@ impl Model for BootWords {
       choices = w.choices;
     } };
 
-    ghost invariant = { λ w. HasBootLayout w.table.shared.table_id w.table.shared.key.frames w.table.shared.key.cpus
-        w.frames w.cpus };
+    ghost invariant = { λ w. HasBootLayout w.table.shared.table_id
+        (record {
+          frames = w.table.shared.key.frames;
+          cpus = w.table.shared.key.cpus;
+          groups = w.table.shared.key.groups;
+        })
+        (record { frames = w.frames; cpus = w.cpus; groups = w.choices.groups }) };
 }
 
 /// A seat of the table, which a contract sees as its pasts. The zone's seat has two while a CPU holds the lock: its own
@@ -302,7 +308,11 @@ impl BootWords {
     {
         let rows = 16 * (cpus as usize + 1);
         let words = vec![in alloc; 0u64; rows + (frames as usize + cpus as usize)]?;
-        let sizes = TableKey { frames, cpus };
+        let sizes = TableKey {
+            frames,
+            cpus,
+            groups: choices.groups,
+        };
         let (table, seat) = Table::of_words(alloc, words.as_slice(), &sizes)?;
         let words = BootWords {
             table,

@@ -2,7 +2,7 @@
 use Rattle.std.specs.Prelude.{◌≡◌, ◌==◌, ◌||◌, Bool, true, max, nat_lt, not}
 use Rattle.zone_blocks.specs.declared.choices.Choices.{Choices}
 use Rattle.zone_blocks.specs.declared.config.Config.{Config}
-use Rattle.zone_blocks.specs.Config.{IsValidConfig}
+use Rattle.zone_blocks.specs.Config.{IsValidConfig, no_choices}
 use Rattle.host_memory.specs.declared.sizes.Sizes.{Sizes}
 
 -- the choices among the sizes that a host passes; 0 is that of a boot that makes none
@@ -11,6 +11,7 @@ choices_of sizes = record {
   is_proportional = not (sizes.proportional == 0);
   is_no_kill = not (sizes.no_kill == 0);
   reclaim_batch = max sizes.reclaim_batch 1;
+  groups = no_choices.groups;
 }
 
 -- each flag is 0 or 1

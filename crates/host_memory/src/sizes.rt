@@ -61,6 +61,7 @@ impl Sizes {
             is_proportional: self.proportional != 0,
             is_no_kill: self.no_kill != 0,
             reclaim_batch: self.reclaim_batch.max(1),
+            groups: Choices::NONE.groups,
         }
     }
 }

@@ -10,6 +10,7 @@ use Rattle.clap.specs.ValueTests.{is_unsigned_in}
 use Rattle.clap.specs.declared.builder.action.ArgAction.TheVariants.{SetTrue}
 use Rattle.clap.specs.declared.builder.value_parser.ValueParser.TheVariants.{Signed}
 use Rattle.clap.specs.Kinds.{Kinds}
+use Rattle.group_tree.specs.Bounds.{most_groups}
 use Rattle.zone_blocks.specs.declared.config.Config.{Config}
 use Rattle.zone_blocks.specs.declared.choices.Choices.{Choices}
 use Rattle.zone_blocks.specs.Config.{most_batch, most_cpus, most_frames, most_high, most_reclaim_batch, most_stock}
@@ -53,6 +54,7 @@ size_rules =
     ∷ size_rule (codes "high") most_high (codes "8")
     ∷ size_rule (codes "stock") most_stock (codes "4")
     ∷ size_rule (codes "reclaim-batch") most_reclaim_batch (codes "1")
+    ∷ size_rule (codes "groups") most_groups (codes "64")
     ∷ []
 
 -- the options of the sizes and choices
@@ -138,10 +140,12 @@ o >>= f = option_and_then f o
 abbrev pub choices_in : List Row → Option Choices
 choices_in found = do
   reclaim_batch ← size_in (codes "reclaim-batch") most_reclaim_batch found
+  groups ← size_in (codes "groups") most_groups found
   Some (record {
     is_proportional = is_given (codes "proportional") found;
     is_no_kill = is_given (codes "no-kill") found;
     reclaim_batch = reclaim_batch;
+    groups = groups;
   })
 
 -- each size is the value of its own option

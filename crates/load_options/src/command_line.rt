@@ -57,6 +57,8 @@ const STOCK_HELP: &str = "Pages that a CPU charges ahead, 1 to 64";
 const RECLAIM_BATCH_HELP: &str =
     "Pages that a round of reclaim wants at least for a charge, 1 to 64";
 
+const GROUPS_HELP: &str = "Groups that may exist at once, the root included, 1 to 64";
+
 const NO_KILL_HELP: &str = "Kills nobody: a charge without room is refused";
 
 const PROPORTIONAL_HELP: &str =
@@ -78,7 +80,7 @@ const STEPS_HELP: &str =
     "Writes the steps of the lines as a log, with the answers as comments, in place of the answers";
 
 // The options of the sizes: name, help, greatest value and default.
-const SIZES: [(&str, &str, u32, &str); 6] = [
+const SIZES: [(&str, &str, u32, &str); 7] = [
     ("frames", FRAMES_HELP, Config::MAX_FRAMES, "16"),
     ("cpus", CPUS_HELP, Config::MAX_CPUS, "2"),
     ("batch", BATCH_HELP, Config::MAX_BATCH, "4"),
@@ -90,6 +92,7 @@ const SIZES: [(&str, &str, u32, &str); 6] = [
         Choices::MAX_RECLAIM_BATCH,
         "1",
     ),
+    ("groups", GROUPS_HELP, Choices::MAX_GROUPS, "64"),
 ];
 
 // The options of the choices that have no value, with their help.
@@ -141,15 +144,15 @@ pub fn words<R: Env + AllocGlobal>(rt: &R) -> Result<Vec<String>, WordsFault> {
 }
 
 /// Parses the words after the program's name. They are `replay`, `run`, `lint` or `serve`, then any of `--frames`,
-/// `--cpus`, `--batch`, `--high`, `--stock`, `--reclaim-batch`, `--no-kill` and `--proportional`. After `replay` and
-/// `run` there may also be `--audit`, `--numbered` and `--strict`, and after `replay` `--explain` and `--check`. After
-/// `replay` there may be `--steps` instead of these five. After `serve` there may be `--audit` and `--explain`, or
-/// `--steps` instead. Each is given at most once. Or the words are `check`, alone or with `--all`, or `--version` or
-/// `-V` alone. Anything else is a fault of the words, even a request for help.
+/// `--cpus`, `--batch`, `--high`, `--stock`, `--reclaim-batch`, `--groups`, `--no-kill` and `--proportional`. After
+/// `replay` and `run` there may also be `--audit`, `--numbered` and `--strict`, and after `replay` `--explain` and
+/// `--check`. After `replay` there may be `--steps` instead of these five. After `serve` there may be `--audit` and
+/// `--explain`, or `--steps` instead. Each is given at most once. Or the words are `check`, alone or with `--all`, or
+/// `--version` or `-V` alone. Anything else is a fault of the words, even a request for help.
 ///
 /// A size is a whole number in its own range: 1 to 1,048,576 frames, 1 to 64 CPUs, batch 1 to 64, high 1 to 256,
-/// stock 1 to 64, reclaim-batch 1 to 64. `Config::is_valid` requires more: high is at least batch. The defaults are 16,
-/// 2, 4, 8, 4 and 1.
+/// stock 1 to 64, reclaim-batch 1 to 64, groups 1 to 64. `Config::is_valid` requires more: high is at least batch. The
+/// defaults are 16, 2, 4, 8, 4, 1 and 64.
 pub fn options<S: AsStr>(alloc: Global, words: &[S]) -> Result<Options, WordsFault>
     ensures asked { GivesOptions (options_of (map S.text words.now)) result }
     ensures in_range { IfOk result (λ o. HasSizesInRange o.sizes) }

@@ -208,7 +208,7 @@ fn sizes(given: &ArgMatches<'_>) -> Option<Config>
     })
 }
 
-// How the zone reclaims, and whether it kills.
+// How the zone reclaims, whether it kills, and its room for groups.
 fn choices(given: &ArgMatches<'_>) -> Option<Choices>
     ensures asked { result ≡ choices_in (rows_of (found_of given.now)) }
     ensures in_range { IfSome result AreValidChoices }
@@ -217,6 +217,7 @@ fn choices(given: &ArgMatches<'_>) -> Option<Choices>
         is_proportional: is_set(given, "proportional"),
         is_no_kill: is_set(given, "no-kill"),
         reclaim_batch: size(given, "reclaim-batch", Choices::MAX_RECLAIM_BATCH)?,
+        groups: size(given, "groups", Choices::MAX_GROUPS)?,
     })
 }
 

@@ -90,4 +90,5 @@ pub new_watch : (booted sizes : Config) (t : KnownTable) → IsSizedAs booted t 
 new_watch booted sizes t sized same watch new =
     let frames : sizes.frames ≡ t.frames = ap (λ (s : Config). s.frames) (sym same) ∙ sym sized.frames in
     let cpus : sizes.cpus ≡ t.cpus = ap (λ (s : Config). s.cpus) (sym same) ∙ sym sized.cpus in
-    subst (λ (zone : Zone). IsNewWatch zone watch) (λ i. record { frames = frames i; cpus = cpus i }) new
+    let groups : sizes.choices.groups ≡ t.choices.groups = ap (λ (s : Config). s.choices.groups) (sym same) ∙ sym (ap (λ (c : Choices). c.groups) sized.choices) in
+    subst (λ (zone : Zone). IsNewWatch zone watch) (λ i. record { frames = frames i; cpus = cpus i; groups = groups i }) new

@@ -161,8 +161,8 @@ tell_more zone run step answer old new legal ok told follow =
           ∙ sym law;
     }
 
-root_alone : (m : ℕ) → has_group boot_groups m ≡ true → 0 ≡ m
-root_alone m there = eqb-true 0 m (or_none (0 == m) (sym (has_group-any boot_groups m) ∙ there))
+root_alone : (zone : Zone) (m : ℕ) → has_group (boot_groups zone) m ≡ true → 0 ≡ m
+root_alone zone m there = eqb-true 0 m (or_none (0 == m) (sym (has_group-any (boot_groups zone) m) ∙ there))
   where
     or_none : (b : Bool) → (b || false) ≡ true → b ≡ true
     or_none true e = refl
@@ -170,7 +170,7 @@ root_alone m there = eqb-true 0 m (or_none (0 == m) (sym (has_group-any boot_gro
 
 pub tell_start : (zone : Zone) (accounts : List Account) → ((m : ℕ) → account_in accounts m ≡ new_account) → AccountsMatchRun zone [] accounts
 tell_start zone accounts new = record {
-  peaks = λ m there. subst (λ (k : ℕ). IsPeak zone [] k (account_in accounts m).peak) (root_alone m there)
+  peaks = λ m there. subst (λ (k : ℕ). IsPeak zone [] k (account_in accounts m).peak) (root_alone zone m there)
       (subst (IsPeak zone [] 0) (sym (ap (λ (a : Account). a.peak) (new m))) (peaks_are_kept.boot zone));
   events = λ key m there. ap (λ (a : Account). count_of a.events key) (new m) ∙ none_counted key ∙ sym (events_are_counted.boot zone key m).0;
   events_local = λ key m there. ap (λ (a : Account). count_of a.events_local key) (new m) ∙ none_counted key ∙ sym (events_are_counted.boot zone key m).1;

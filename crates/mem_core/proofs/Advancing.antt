@@ -1,5 +1,6 @@
 -- One more step of a core (for `Core::step`).
 use Rattle.std.proofs.Common.{◌≡◌, ℕ, ◌+◌, ◌^◌, ◌<◌, refl, sym, ◌∙◌, ap, subst, arith, inl, inr, length-append, List, [], ◌∷◌, ◌++◌}
+use Rattle.group_tree.specs.Bounds.{most_groups}
 use Rattle.zone_blocks.specs.declared.block.Block.{Block}
 use Rattle.zone_blocks.specs.Areas.{AreMaximalBlocks, IsFrontOfSmallest}
 use Rattle.step_rules.specs.declared.step.Step.{Step}
@@ -86,7 +87,7 @@ first_from s own action answer maximal front = tt
 pub bounded_boot : (n : ℕ) (zone : Zone) → IsBounded n (at_boot zone)
 bounded_boot n zone = record {
   references = λ seat f. omega arith;
-  pages = let a = sum_none 64 (λ g. 0) (λ i b. refl) in let b = sum_none (zone.cpus + 1) (λ p. 0) (λ i b. refl) in omega arith;
+  pages = let a = sum_none most_groups (λ g. 0) (λ i b. refl) in let b = sum_none (zone.cpus + 1) (λ p. 0) (λ i b. refl) in omega arith;
   holder = tt;
   pins = pins_boot zone;
 }

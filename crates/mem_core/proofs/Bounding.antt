@@ -3,6 +3,7 @@ use Rattle.std.proofs.Common.{◌≡◌, ℕ, ◌+◌, ◌-◌, ◌^◌, ◌<◌
 use Rattle.std.proofs.Common.{arith, inl, inr, cond, zero, suc}
 use Rattle.std.specs.Prelude.{nat_le}
 use Rattle.std.proofs.lemmas.Bool.{cases_eq, cases_lt, and_parts, leb-true, eqb-true, false≢true}
+use Rattle.group_tree.specs.Bounds.{most_groups}
 use Rattle.step_rules.specs.declared.phase.Hold.{Hold}
 use Rattle.step_rules.specs.declared.phase.Hold.TheVariants.{Unheld, HeldBy, Visiting}
 use Rattle.step_rules.specs.declared.phase.Phase.{Phase}
@@ -107,7 +108,7 @@ holder_there cpus p (Visiting q) there e = absurd (false≢true e)
 
 -- rows of the zone's size whose state is sound and bounded are ready for a step
 pub few_from : (n : ℕ) (s : State) → n ≤ 2 ^ 96 → ((p : ℕ) → s.zone.cpus < p → (s.parts p).book ≡ 0)
-    → ((g : ℕ) → 64 ≤ g → s.pending g ≡ 0) → KeepsInvariant s → IsBounded n s → IsBelowBounds s
+    → ((g : ℕ) → most_groups ≤ g → s.pending g ≡ 0) → KeepsInvariant s → IsBounded n s → IsBelowBounds s
 few_from n s small beyond absent sound bounded = record {
   references = bounded.references;
   booked = sound.booked;
@@ -115,8 +116,8 @@ few_from n s small beyond absent sound bounded = record {
     | inl below ↦ let a = sum_part (s.zone.cpus + 1) (λ q. (s.parts q).book) p below in let b = bounded.pages in omega arith
     | inr past ↦ let none = beyond p (omega arith) in omega arith
   ];
-  pending = λ g. elim (cases_lt g 64) [
-    | inl below ↦ let a = sum_part 64 s.pending g below in let b = bounded.pages in omega arith
+  pending = λ g. elim (cases_lt g most_groups) [
+    | inl below ↦ let a = sum_part most_groups s.pending g below in let b = bounded.pages in omega arith
     | inr past ↦ let none = absent g past in omega arith
   ];
   room = λ p kind f below other. room_there s p kind f sound below other;
@@ -149,7 +150,7 @@ books_more n parts k part y le = let a = sum_more n (λ p. (parts p).book) k par
 
 -- a part changes and its book stays
 part_kept : (n : ℕ) (s : State) (k : ℕ) (part : Part) → part.book ≡ (s.parts k).book → pages_out s ≤ n
-    → sum_to 64 s.pending + sum_to (s.zone.cpus + 1) (λ p. (with_at s.parts k part p).book) ≤ n + 2 ^ 32
+    → sum_to most_groups s.pending + sum_to (s.zone.cpus + 1) (λ p. (with_at s.parts k part p).book) ≤ n + 2 ^ 32
 part_kept n s k part same few = let a = books_more (s.zone.cpus + 1) s.parts k part 0 (omega arith) in omega arith
 
 wide : (n m : ℕ) → m ≤ n → m ≤ n + 2 ^ 32
@@ -193,7 +194,7 @@ small_step n s seat (Put f) Last sound b legal ok counted small =
       holder = b.holder;
     }
   where
-    last : (z : Bool) → sum_to 64 s.pending + sum_to (s.zone.cpus + 1)
+    last : (z : Bool) → sum_to most_groups s.pending + sum_to (s.zone.cpus + 1)
         (λ p. ((cond z s.parts (with_at s.parts seat (with_back (s.parts seat) f))) p).book) ≤ n + 2 ^ 32
     last true = wide n (pages_out s) b.pages
     last false = part_kept n s seat (with_back (s.parts seat) f) refl b.pages
@@ -225,7 +226,7 @@ small_step n s seat (Absorb p) (Pages m) sound b legal ok counted small =
     record { references = b.references; pages = omega arith; holder = b.holder }
 small_step n s seat (Fill p g m) Done sound b legal ok counted small =
     let a = books_more (s.zone.cpus + 1) s.parts p (filled (s.parts p) g m) m (omega arith) in
-    let d = sum_more 64 s.pending g (s.pending g - m) 0 (omega arith) in
+    let d = sum_more most_groups s.pending g (s.pending g - m) 0 (omega arith) in
     let few = b.pages in
     record { references = b.references; pages = omega arith; holder = b.holder }
 small_step n s seat (DrainStock p) (Pages m) sound b legal ok counted small =
@@ -238,19 +239,19 @@ small_step n s seat (DrainStock p) (Pages m) sound b legal ok counted small =
     let few = b.pages in
     record { references = b.references; pages = omega arith; holder = b.holder }
   where
-    more : (of : Option ℕ) → sum_to 64 (with_more s.pending of m) ≤ sum_to 64 s.pending + m
+    more : (of : Option ℕ) → sum_to most_groups (with_more s.pending of m) ≤ sum_to most_groups s.pending + m
     more None = omega arith
-    more (Some g) = sum_more 64 s.pending g (s.pending g + m) m (omega arith)
+    more (Some g) = sum_more most_groups s.pending g (s.pending g + m) m (omega arith)
 small_step n s seat (Grant g m) Granted sound b legal ok counted small =
-    let d = sum_more 64 s.pending g (s.pending g + m) m (omega arith) in
+    let d = sum_more most_groups s.pending g (s.pending g + m) m (omega arith) in
     let few = b.pages in
     record { references = b.references; pages = omega arith; holder = b.holder }
 small_step n s seat (Ungrant g m) Done sound b legal ok counted small =
-    let d = sum_more 64 s.pending g (s.pending g - m) 0 (omega arith) in
+    let d = sum_more most_groups s.pending g (s.pending g - m) 0 (omega arith) in
     let few = b.pages in
     record { references = b.references; pages = omega arith; holder = b.holder }
 small_step n s seat (PlaceBlock g k) (Placed x) sound b legal ok counted small =
-    let d = sum_more 64 s.pending g (s.pending g - 2 ^ k) 0 (omega arith) in
+    let d = sum_more most_groups s.pending g (s.pending g - 2 ^ k) 0 (omega arith) in
     let few = b.pages in
     record { references = b.references; pages = omega arith; holder = b.holder }
 small_step n s seat Lock answer sound b legal ok counted small =

@@ -4,6 +4,7 @@ use Rattle.std.proofs.Common.{refl, sym, ◌∙◌, ap, subst, arith, inl, inr, 
 use Rattle.std.specs.Prelude.{not, nat_lt}
 use Rattle.std.proofs.lemmas.Bool.{cases_eq, cases_lt, cond-false, cond-true, ne_eqb}
 use Rattle.std.proofs.lemmas.List.{length-set, length-replicate}
+use Rattle.group_tree.specs.Bounds.{most_groups}
 use Rattle.group_tree.specs.declared.group.Group.{Group}
 use Rattle.group_tree.specs.Groups.{in_subtree}
 use Rattle.group_tree.specs.{is_in_subtree}
@@ -259,30 +260,30 @@ cond_one : (b : Bool) (x : ℕ) → x ≡ 1 → cond b x 0 ≡ one_if b
 cond_one true x e = e
 cond_one false x e = refl
 
-keeper_sum : (groups : List Group) (g : ℕ) (o : Option ℕ) → class_of 63 o < 65
-    → sum_to 64 (λ h. cond (in_subtree groups g h) (one_if (class_of 63 o == h + 1)) 0) ≡ one_if (is_in_subtree groups g o)
+keeper_sum : (groups : List Group) (g : ℕ) (o : Option ℕ) → class_of (most_groups - 1) o < most_groups + 1
+    → sum_to most_groups (λ h. cond (in_subtree groups g h) (one_if (class_of (most_groups - 1) o == h + 1)) 0) ≡ one_if (is_in_subtree groups g o)
 keeper_sum groups g None below =
-    sum_none 64 (λ h. cond (in_subtree groups g h) (one_if (0 == h + 1)) 0)
+    sum_none most_groups (λ h. cond (in_subtree groups g h) (one_if (0 == h + 1)) 0)
     (λ h b. cond_zero (in_subtree groups g h) (one_if (0 == h + 1)) (one_other 0 (h + 1) (λ z. absurd (omega arith))))
 keeper_sum groups g (Some p) below =
-    elim (cases_lt 63 p) [
-      | inl past ↦ absurd (let e = class_past 63 p past in omega arith)
+    elim (cases_lt (most_groups - 1) p) [
+      | inl past ↦ absurd (let e = class_past (most_groups - 1) p past in omega arith)
       | inr le ↦
-          let is = class_some 63 p le in
-          sum_only 64 (λ h. cond (in_subtree groups g h) (one_if (class_of 63 (Some p) == h + 1)) 0) p (omega arith)
-          (λ h b ne. cond_zero (in_subtree groups g h) (one_if (class_of 63 (Some p) == h + 1))
-          (one_other (class_of 63 (Some p)) (h + 1) (λ z. ne (omega arith))))
-          ∙ cond_one (in_subtree groups g p) (one_if (class_of 63 (Some p) == p + 1)) (one_same (class_of 63 (Some p)) (p + 1) is)
+          let is = class_some (most_groups - 1) p le in
+          sum_only most_groups (λ h. cond (in_subtree groups g h) (one_if (class_of (most_groups - 1) (Some p) == h + 1)) 0) p (omega arith)
+          (λ h b ne. cond_zero (in_subtree groups g h) (one_if (class_of (most_groups - 1) (Some p) == h + 1))
+          (one_other (class_of (most_groups - 1) (Some p)) (h + 1) (λ z. ne (omega arith))))
+          ∙ cond_one (in_subtree groups g p) (one_if (class_of (most_groups - 1) (Some p) == p + 1)) (one_same (class_of (most_groups - 1) (Some p)) (p + 1) is)
     ]
 
-pub kept_by_class : (groups : List Group) (phases : ℕ → Phase) (n g : ℕ) (sizes : List ℕ) → IsTally n (λ f. keeper_class (phases f)) sizes → length sizes ≡ 65
-    → sum_to 64 (λ h. cond (in_subtree groups g h) (get_or sizes (h + 1) 0) 0) ≡ frames_kept groups phases n g
+pub kept_by_class : (groups : List Group) (phases : ℕ → Phase) (n g : ℕ) (sizes : List ℕ) → IsTally n (λ f. keeper_class (phases f)) sizes → length sizes ≡ most_groups + 1
+    → sum_to most_groups (λ h. cond (in_subtree groups g h) (get_or sizes (h + 1) 0) 0) ≡ frames_kept groups phases n g
 kept_by_class groups phases n g sizes tally size =
-    sum_same 64 (λ h. cond (in_subtree groups g h) (get_or sizes (h + 1) 0) 0) (λ h. sum_to n (each h))
+    sum_same most_groups (λ h. cond (in_subtree groups g h) (get_or sizes (h + 1) 0) 0) (λ h. sum_to n (each h))
     (λ h b. ap (λ x. cond (in_subtree groups g h) x 0) (tally.each (h + 1))
     ∙ cond_sum (in_subtree groups g h) n (λ f. one_if (keeper_class (phases f) == h + 1)))
-    ∙ sum_swap 64 n each
-    ∙ sum_same n (λ f. sum_to 64 (λ h. each h f)) (λ f. one_if (is_in_subtree groups g (keeper_of (phases f))))
+    ∙ sum_swap most_groups n each
+    ∙ sum_same n (λ f. sum_to most_groups (λ h. each h f)) (λ f. one_if (is_in_subtree groups g (keeper_of (phases f))))
     (λ f b. keeper_sum groups g (keeper_of (phases f)) (let low = tally.below f b in omega (arith, low, size)))
   where
     each : ℕ → ℕ → ℕ

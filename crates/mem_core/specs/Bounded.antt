@@ -1,5 +1,6 @@
 -- How large the numbers of a state may be.
 use Rattle.std.specs.Prelude.{◌≡◌, ℕ, ◌+◌, ◌≤◌, true, length}
+use Rattle.group_tree.specs.Bounds.{most_groups}
 use Rattle.step_rules.specs.declared.phase.Hold.{Hold}
 use Rattle.step_rules.specs.declared.phase.Hold.TheVariants.{Unheld, HeldBy, Visiting}
 use Rattle.step_rules.specs.State.{State, is_cpu, pins_of, sum_to}
@@ -12,7 +13,7 @@ HolderIsThere cpus (Visiting p) = p ≤ cpus
 
 -- all pages that are pending or stand in a book
 abbrev pub pages_out : State → ℕ
-pages_out s = sum_to 64 s.pending + sum_to (s.zone.cpus + 1) (λ p. (s.parts p).book)
+pages_out s = sum_to most_groups s.pending + sum_to (s.zone.cpus + 1) (λ p. (s.parts p).book)
 
 -- the numbers are bounded by so many pages
 pub record IsBounded (n : ℕ) (s : State) : Type 0 where

@@ -20,7 +20,7 @@ seat_shown s = record { references = s.references; part = part_in s }
 -- the core state that these rows show, with these accounts and areas, after this many steps
 abbrev pub rows_shown : Rows → List Account → List Block → ℕ → CoreState
 rows_shown rows accounts areas steps = record {
-  zone = record { frames = rows.frames; cpus = rows.cpus };
+  zone = record { frames = rows.frames; cpus = rows.cpus; groups = rows.groups };
   hold = rows.hold;
   groups = rows.tree;
   killed = rows.killed.items;

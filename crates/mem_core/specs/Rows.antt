@@ -31,7 +31,7 @@ reference_of (Some s) f = slice_index_or s.references f 0
 -- the state that the rows show; past the end of each list, as at boot
 abbrev pub state_in : Rows → State
 state_in r = record {
-  zone = record { frames = r.frames; cpus = r.cpus };
+  zone = record { frames = r.frames; cpus = r.cpus; groups = r.groups };
   hold = r.hold;
   groups = r.tree;
   killed = λ g. slice_index_or r.killed.items g false;

@@ -14,9 +14,9 @@ use Rattle.step_rules.specs.State.{State}
 use Rattle.zone_blocks.specs.declared.config.Config.{Config}
 use Rattle.mem_core.specs.Accounts.{Account, account_in}
 
--- the frames and the CPUs of a zone that boots with these sizes
+-- the zone that boots with these sizes
 abbrev pub zone_of_config : Config → Zone
-zone_of_config config = record { frames = config.frames; cpus = config.cpus }
+zone_of_config config = record { frames = config.frames; cpus = config.cpus; groups = config.choices.groups }
 
 -- what a core shows of a seat: its references on each frame, and its part
 pub record SeatState : Type 0 where

@@ -50,24 +50,26 @@ fn new_counts(alloc: Global) -> Result<Vec<u128>, AllocError>
 }
 
 impl Rows {
-    /// Rows of this many frames and CPUs: all frames are free, the root is the only group, and the lock is free. All
-    /// room that a step needs is reserved here.
-    pub fn new(alloc: Global, frames: u32, cpus: u32) -> Result<Rows, AllocError>
+    /// Rows of this many frames and CPUs, with room for this many groups: all frames are free, the root is the only
+    /// group, and the lock is free. All room that a step needs is reserved here.
+    pub fn new(alloc: Global, frames: u32, cpus: u32, groups: u32) -> Result<Rows, AllocError>
         requires frames { frames ≤ most_frames }
         requires cpus { cpus ≤ most_cpus }
+        requires groups { (1 ≤ groups) × (groups ≤ most_groups) }
         ensures fits { IfOk result FitsZone }
-        ensures state { IfOk result (λ r. state_in r ≡ at_boot (record { frames = frames; cpus = cpus })) }
+        ensures state { IfOk result (λ r. state_in r ≡ at_boot (record { frames = frames; cpus = cpus; groups = groups })) }
     {
         // What a failure has to drop grows from part to part, and with it the time of this function's check, so the parts
         // that are longest to drop come last.
         let killed = new_flags(alloc)?;
         let pending = new_counts(alloc)?;
         let phases = PhaseTable::new(alloc, frames)?;
-        let tree = Tree::new(alloc, MAX_GROUPS as u32 - 1)?;
+        let tree = Tree::new(alloc, groups - 1)?;
         let seats = new_seats(alloc, frames, cpus)?;
         Ok(Rows {
             frames,
             cpus,
+            groups,
             hold: Hold::Unheld,
             tree,
             killed,

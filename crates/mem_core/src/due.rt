@@ -11,7 +11,7 @@ use crate::blocks::free_block;
 use crate::legal::is_legal;
 use crate::rows::Rows;
 use crate::sums::is_of_group;
-use group_tree::group::GroupId;
+use group_tree::group::{GroupId, MAX_GROUPS};
 use group_tree::path::PathText;
 use group_tree::tree::Tree;
 use step_rules::step::{Action, Answer, Step};
@@ -162,7 +162,7 @@ fn least_free(tree: &Tree) -> GroupId
     requires few { length tree.now < most_groups }
     ensures { IsLeastFreeNumber tree.now result }
 {
-    for number in 0..64 {
+    for number in 0..MAX_GROUPS as u32 {
         let group = GroupId::of(number).unwrap();
         if !tree.contains(group) {
             return group;

@@ -2,6 +2,7 @@
 
 ghost use Rattle.std.specs.Prelude.{◌≡◌, ◌+◌, ◌<◌, ◌≤◌, IfOk, length, replicate, slice_set, vec_len};
 ghost use Rattle.std.specs.List.{slice_index_or};
+ghost use Rattle.group_tree.specs.Bounds.{most_groups};
 ghost use Rattle.step_rules.specs.declared.phase.Phase.{Phase};
 ghost use Rattle.step_rules.specs.declared.phase.Phase.TheVariants.{InZone};
 ghost use Rattle.zone_blocks.specs.Config.{most_cpus, most_frames};
@@ -97,7 +98,7 @@ impl PhaseTable {
     /// How many frames no group keeps, and then for each group number how many it keeps.
     pub(crate) fn kept(&self) -> &[u32]
         ensures sizes { IsTally (length self.now) (class_in keeper_class self.now) result.now }
-        ensures number { length result.now ≡ 65 }
+        ensures number { length result.now ≡ most_groups + 1 }
         ensures few { length self.now ≤ most_frames }
     {
         let _phases = &self.phases; // Borrowed for the invariant.

@@ -25,6 +25,8 @@ pub struct Rows {
     pub frames: u32,
     /// CPUs, with the seats from 1 on.
     pub cpus: u32,
+    /// Groups that the zone has room for.
+    pub groups: u32,
     /// Who holds the lock.
     pub hold: Hold,
     /// The groups, with their limits.

@@ -2,7 +2,7 @@
 //! change, and seats and groups at each call.
 
 ghost use Rattle.std.specs.Prelude.{◌≡◌, ◌+◌, ◌*◌, ◌^◌, ◌<◌, ◌≤◌, ℕ, length, IfNone, IfSome, IsTrue, true, if◌then◌else◌};
-ghost use Rattle.group_tree.specs.{has_group, in_subtree, has_room, PathHasRoom, IsLowestOver, is_in_subtree};
+ghost use Rattle.group_tree.specs.{most_groups, has_group, in_subtree, has_room, PathHasRoom, IsLowestOver, is_in_subtree};
 ghost use Rattle.step_rules.specs.{live_references, pins_of, frames_kept, stock_in_subtree};
 ghost use Rattle.step_rules.specs.{pages_prepaid, pages_pending, usage_of, is_of_group, rests, nothing_passes};
 ghost use Rattle.step_rules.specs.{no_frame_passes, no_page_pends};
@@ -13,7 +13,7 @@ ghost use Rattle.mem_core.specs.Rooms.{FitsZone, IsBelowBounds};
 
 use crate::phases::{is_passing, passes_back, passes_out};
 use crate::rows::Rows;
-use group_tree::group::GroupId;
+use group_tree::group::{GroupId, MAX_GROUPS};
 use zone_blocks::config::Config;
 
 /// Whether the stock is of a group, and of this one.
@@ -99,7 +99,7 @@ impl Rows {
         requires fits { FitsZone self.now }
         ensures { result ≡ no_page_pends (state_in self.now) }
     {
-        for number in 0..64usize {
+        for number in 0..MAX_GROUPS {
             if self.pending[number] != 0 {
                 return false;
             }
@@ -130,8 +130,8 @@ impl Rows {
 
     // How many frames a group keeps, if it is in the subtree.
     fn kept_in_subtree(&self, kept: &[u32], group: GroupId, number: u32) -> u128
-        requires number { number < 64 }
-        requires size { length kept.now ≡ 65 }
+        requires number { number < most_groups }
+        requires size { length kept.now ≡ most_groups + 1 }
         requires few { (k : ℕ) → slice_index_or kept.now k 0 ≤ most_frames }
         ensures kept { result ≡ (if in_subtree self.now.tree group number then slice_index_or kept.now
             (number + 1) 0 else 0) }
@@ -154,11 +154,11 @@ impl Rows {
     fn frames_kept(&self, group: GroupId) -> u128
         requires fits { FitsZone self.now }
         ensures kept { result ≡ frames_kept self.now.tree (state_in self.now).phases self.now.frames group }
-        ensures few { result ≤ 64 * most_frames }
+        ensures few { result ≤ most_groups * most_frames }
     {
         let mut sum = 0u128;
         let kept = self.phases.kept();
-        for number in 0..64u32 {
+        for number in 0..MAX_GROUPS as u32 {
             sum += self.kept_in_subtree(kept, group, number);
         }
         sum
@@ -194,7 +194,7 @@ impl Rows {
 
     // The pages pending for one group, if it is in the subtree.
     fn pending_in_subtree(&self, group: GroupId, number: u32) -> u128
-        requires number { number < 64 }
+        requires number { number < most_groups }
         requires bounded { IsBelowBounds (state_in self.now) }
         ensures pages { result ≡ (if in_subtree self.now.tree group number then (state_in self.now).pending
             number else 0) }
@@ -217,10 +217,10 @@ impl Rows {
     fn pages_pending(&self, group: GroupId) -> u128
         requires bounded { IsBelowBounds (state_in self.now) }
         ensures pages { result ≡ pages_pending self.now.tree (state_in self.now).pending group }
-        ensures few { result ≤ 64 * 2 ^ 96 }
+        ensures few { result ≤ most_groups * 2 ^ 96 }
     {
         let mut sum = 0u128;
-        for number in 0..64u32 {
+        for number in 0..MAX_GROUPS as u32 {
             sum += self.pending_in_subtree(group, number);
         }
         sum

@@ -1,18 +1,20 @@
 //! The sizes of classes of frames, one of which changes as a frame moves to another class.
 
-ghost use Rattle.std.specs.Prelude.{◌≡◌, ◌<◌, ◌≤◌, ℕ, IfOk, replicate, slice_set, vec_len};
+ghost use Rattle.std.specs.Prelude.{◌≡◌, ◌+◌, ◌<◌, ◌≤◌, ℕ, IfOk, replicate, slice_set, vec_len};
 ghost use Rattle.std.specs.List.{slice_index_or};
+ghost use Rattle.group_tree.specs.Bounds.{most_groups};
 ghost use Rattle.step_rules.specs.Phases.{keeper_of};
 ghost use Rattle.zone_blocks.specs.Config.{most_cpus, most_frames};
 ghost use Rattle.mem_core.specs.Counted.{keeper_class, moved_sizes, stage_transit_cpu, transit_class, transit_cpu};
 
 use crate::phases::keeper_of;
+use group_tree::group::MAX_GROUPS;
 use std::alloc::{AllocError, Global};
 use step_rules::phase::{Phase, Stage, Way};
 use zone_blocks::config::Config;
 
 /// The classes of frames by the group that keeps them: one for no group, and one for each group number.
-pub(crate) const KEEPER_CLASSES: usize = 65;
+pub(crate) const KEEPER_CLASSES: usize = MAX_GROUPS + 1;
 
 /// The classes of frames by the CPU to or from which they are in transit: one for no CPU, one for each number up to
 /// that of the last CPU, and one for all numbers above.
@@ -21,7 +23,7 @@ pub(crate) const TRANSIT_CLASSES: usize = 67;
 /// The class of a frame by the group that keeps it.
 pub(crate) fn keeper_class(phase: Phase) -> usize
     ensures class { result ≡ keeper_class phase }
-    ensures below { result < 65 }
+    ensures below { result < most_groups + 1 }
 {
     match keeper_of(phase) {
         None => 0,

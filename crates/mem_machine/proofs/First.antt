@@ -76,10 +76,10 @@ not_head unit e = cc
 not_tail : (g : ℕ) → Free ≡ Tail g → ⊥
 not_tail g e = cc
 
-no_pages : (g : ℕ) → pages_of boot_ledger g ≡ 0
+no_pages : (groups g : ℕ) → pages_of (boot_ledger groups) g ≡ 0
 unfolding pages_of account_at
-no_pages g = elim (cases_eq 0 g) [
-  | inl e ↦ subst (λ (h : ℕ). pages_of boot_ledger h ≡ 0) e refl
+no_pages groups g = elim (cases_eq 0 g) [
+  | inl e ↦ subst (λ (h : ℕ). pages_of (boot_ledger groups) h ≡ 0) e refl
   | inr ne ↦ let none : (0 == g) ≡ false = ne_eqb 0 g ne in rw none refl
 ]
 
@@ -108,7 +108,7 @@ module _ (t : KnownTable) (m : KnownMachine) (first : IsFirst t m) where
 
   charged_first : (g : ℕ) → pages_of m.ledger g ≡ frames_charged m.frame_states g + pages_booked t.cpus (hide (at_boot (zone_of_boot t))).parts g
   charged_first g =
-      let pages : pages_of m.ledger g ≡ 0 = ap (λ (l : Ledger). pages_of l g) first.ledger ∙ no_pages g in
+      let pages : pages_of m.ledger g ≡ 0 = ap (λ (l : Ledger). pages_of l g) first.ledger ∙ no_pages t.choices.groups g in
       let frames : frames_charged m.frame_states g ≡ 0 =
       sum_none (length m.frame_states) (λ f. one_if_is g (frame_state_group (frame_state_at m.frame_states f))) (λ f inside. ap (λ (x : FrameState). one_if_is g (frame_state_group x)) (all_free f)) in
       let books = none_booked t.cpus (zone_of_boot t) g in
@@ -179,7 +179,7 @@ module _ (t : KnownTable) (m : KnownMachine) (first : IsFirst t m) where
   }
 
 pub first_is : (t : KnownTable) (m : KnownMachine) (frames : ℕ) → frames ≡ t.frames → m.frame_states ≡ replicate frames Free
-    → m.ledger ≡ boot_ledger → AreNowhere m.links → m.killed ≡ replicate most_groups false → m.counts ≡ no_counts
+    → m.ledger ≡ boot_ledger t.choices.groups → AreNowhere m.links → m.killed ≡ replicate most_groups false → m.counts ≡ no_counts
     → m.notes ≡ no_notes → m.is_proportional ≡ t.choices.is_proportional → m.run.past ≡ seat_at_first t.table 0 → IsFirst t m
 first_is t m frames sized frame_states ledger nowhere killed counts notes choice past = record {
   frame_states = frame_states ∙ ap (λ (n : ℕ). replicate n Free) sized;

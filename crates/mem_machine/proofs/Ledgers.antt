@@ -10,13 +10,12 @@ use Rattle.std.proofs.lemmas.List.{get_or-map}
 use Rattle.std.proofs.lemmas.List.Sums.{sum_by-cons}
 use Rattle.group_tree.specs.Bounds.{most_groups}
 use Rattle.group_tree.specs.declared.group.Group.{Group}
-use Rattle.group_tree.specs.Groups.{in_subtree}
+use Rattle.group_tree.specs.Groups.{in_subtree, the_root}
 use Rattle.group_charge.specs.declared.account.Account.{Account}
 use Rattle.group_charge.specs.Charges.{Ledger, AreCharges, current_of, usage_charged, pages_of, account_at}
 use Rattle.group_charge.proofs.ChargeLemmas.{all_distinct, as_many}
 use Rattle.group_tree.specs.{is_in_subtree}
 use Rattle.step_rules.specs.{Part, one_if, sum_to}
-use Rattle.step_rules.specs.State.{boot_root}
 use Rattle.step_rules.proofs.Sums.{sum_same, sum_none, sum_both, sum_part, sum_swap, sum_only}
 use Rattle.boot_words.specs.Tables.{KnownTable}
 use Rattle.mem_machine.specs.declared.frame_state.FrameState.{FrameState}
@@ -96,11 +95,11 @@ all_small : (l : Ledger) → AreCharges l → All (λ (a : Account). a.group < m
 all_small l facts = λ k d lt.
     let many = as_many l facts in
     let also : k < length l.groups = omega arith in
-    let same : (get_or l.accounts k d).group ≡ (get_or l.groups k boot_root).number =
+    let same : (get_or l.accounts k d).group ≡ (get_or l.groups k (the_root 0)).number =
     sym (get_or-map (λ (a : Account). a.group) l.accounts k d 0 lt) ∙ ap (λ (ns : List ℕ). get_or ns k 0) facts.numbers
-    ∙ get_or-map (λ (x : Group). x.number) l.groups k boot_root 0 also in
-    let bound : (get_or l.groups k boot_root).number < most_groups =
-    let low = facts.groups.numbers k boot_root also in let room = facts.groups.room in omega arith in
+    ∙ get_or-map (λ (x : Group). x.number) l.groups k (the_root 0) 0 also in
+    let bound : (get_or l.groups k (the_root 0)).number < most_groups =
+    let low = facts.groups.numbers k (the_root 0) also in let room = facts.groups.room in omega arith in
     omega arith
 
 usage_by_number : (l : Ledger) (g : ℕ) → AreCharges l → current_of l g ≡ sum_to most_groups (λ h. cond (in_subtree l.groups g h) (pages_of l h) 0)

@@ -1,5 +1,5 @@
 -- What contracts see of the machine, and what always holds of it.
-use Rattle.std.specs.Prelude.{◌≡◌, ◌≢◌, ℕ, ◌+◌, ◌-◌, ◌<◌, ◌≤◌, ◌==◌, Bool, false, Option, Some, None, is_some, IfSome, List, [], ◌∷◌, length, replicate, slice_set, if◌then◌else◌}
+use Rattle.std.specs.Prelude.{◌≡◌, ◌≢◌, ℕ, ◌+◌, ◌-◌, ◌<◌, ◌≤◌, ◌==◌, Bool, false, Option, Some, None, is_some, IfSome, List, [], ◌∷◌, length, min, replicate, slice_set, if◌then◌else◌}
 use Rattle.std.specs.List.{slice_index_or}
 use Rattle.zone_blocks.specs.declared.block.Block.{Block}
 use Rattle.zone_blocks.specs.Areas.{AreMaximalBlocks}
@@ -258,15 +258,15 @@ OneByOne IsDone (frame ∷ others) before after = FirstThen (IsDone frame) (OneB
 abbrev pub IsCpuOf : KnownTable → ℕ → Type 0
 IsCpuOf table cpu = (1 ≤ cpu) × (cpu ≤ table.cpus)
 
--- the ledger of a new boot: the root alone, with nothing charged and nothing set
-abbrev pub boot_ledger : Ledger
-boot_ledger = initial_ledger (most_groups - 1)
+-- the ledger of a new boot with room for so many groups: the root alone, with nothing charged and nothing set
+abbrev pub boot_ledger : ℕ → Ledger
+boot_ledger groups = initial_ledger (min groups most_groups - 1)
 
 -- The machine of a new boot. All frames are free and on no list, only the root exists, and no group is killed. All
 -- counts are 0, and nothing is noted. No step was made yet.
 pub record IsFirst (table : KnownTable) (machine : KnownMachine) : Type 0 where
   pub frame_states : machine.frame_states ≡ replicate table.frames Free
-  pub ledger : machine.ledger ≡ boot_ledger
+  pub ledger : machine.ledger ≡ boot_ledger table.choices.groups
   pub nowhere : AreNowhere machine.links
   pub killed : machine.killed ≡ replicate most_groups false
   pub counts : machine.counts ≡ no_counts

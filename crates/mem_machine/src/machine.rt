@@ -85,7 +85,8 @@ impl<N: BootName> Machine<N> {
         ensures rests { IfOk result (λ machine. Rests N.table machine) }
     {
         prove_sizes(tables); // There are at most 64 CPUs.
-        let parts = match new_parts(alloc, tables.words.frames()) {
+        let groups = tables.words.choices().groups;
+        let parts = match new_parts(alloc, tables.words.frames(), groups) {
             Ok(parts) => parts,
             Err(error) => {
                 drop(past);

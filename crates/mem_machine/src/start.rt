@@ -16,6 +16,7 @@ use group_tree::group::MAX_GROUPS;
 use lru_lists::links::Links;
 use lru_lists::lru::Lru;
 use std::alloc::{AllocError, Global};
+use std::cmp::min;
 use zone_blocks::buddy::Buddy;
 
 /// The parts of the first machine that take memory.
@@ -32,19 +33,19 @@ pub(crate) struct Parts {
 
 /// All parts that take memory. What a failure has to drop grows from part to part, and with it the time of this
 /// function's check, so the parts that are longest to drop come last.
-pub(crate) fn new_parts(alloc: Global, frames: u32) -> Result<Parts, AllocError>
+pub(crate) fn new_parts(alloc: Global, frames: u32, groups: u32) -> Result<Parts, AllocError>
     ensures free { IfOk result (λ parts. parts.zone.free ≡ replicate frames true) }
     ensures areas { IfOk result (λ parts. AreMaximalBlocks parts.zone.free parts.zone.blocks) }
     ensures frame_states { IfOk result (λ parts. parts.frame_states.items ≡ replicate frames Free) }
     ensures frames { IfOk result (λ parts. length parts.links ≡ frames) }
     ensures nowhere { IfOk result (λ parts. AreNowhere parts.links) }
-    ensures charges { IfOk result (λ parts. parts.charges ≡ boot_ledger) }
+    ensures charges { IfOk result (λ parts. parts.charges ≡ boot_ledger groups) }
     ensures lists { IfOk result (λ parts. AreEmpty parts.lists.items most_groups) }
     ensures killed { IfOk result (λ parts. parts.killed.items ≡ replicate most_groups false) }
     ensures notes { IfOk result (λ parts. parts.notes ≡ no_notes) }
 {
     let notes = Notes::new(alloc)?;
-    let (charges, lists, killed) = group_parts(alloc)?;
+    let (charges, lists, killed) = group_parts(alloc, groups)?;
     let (zone, frame_states, links) = frame_parts(alloc, frames)?;
     Ok(Parts {
         zone,
@@ -73,14 +74,14 @@ fn frame_parts(alloc: Global, frames: u32) -> Result<(Buddy, Vec<FrameState>, Li
 
 // The parts that have a place for each group number: charges, two empty lists each, and the marks of killed groups.
 // Only the root exists.
-fn group_parts(alloc: Global) -> Result<(Charges, Vec<Lru>, Vec<bool>), AllocError>
-    ensures charges { IfOk result (λ parts. parts.0 ≡ boot_ledger) }
+fn group_parts(alloc: Global, groups: u32) -> Result<(Charges, Vec<Lru>, Vec<bool>), AllocError>
+    ensures charges { IfOk result (λ parts. parts.0 ≡ boot_ledger groups) }
     ensures lists { IfOk result (λ parts. AreEmpty parts.1.items most_groups) }
     ensures killed { IfOk result (λ parts. parts.2.items ≡ replicate most_groups false) }
 {
     let killed = no_marks(alloc)?;
     let lists = empty_lists(alloc)?;
-    let charges = Charges::new(alloc, MAX_GROUPS as u32 - 1)?;
+    let charges = Charges::new(alloc, min(groups, MAX_GROUPS as u32).saturating_sub(1))?;
     Ok((charges, lists, killed))
 }
 

@@ -60,10 +60,10 @@ groups_still : (x : List Group) (action : Action) → groups_after x action Ille
 groups_still x Lock = refl
 groups_still x action = refl
 
-pub groups_in_run : (zone : Zone) (run : Run) → IsLegalRun zone run → (state_of zone run).groups ≡ groups_of run
+pub groups_in_run : (zone : Zone) (run : Run) → IsLegalRun zone run → (state_of zone run).groups ≡ groups_of zone run
 groups_in_run zone run legal =
     told_run (λ x seat action answer. groups_after x action answer) (λ s x. s.groups ≡ x) (λ x seat action. groups_still x action)
-    (λ s x seat action answer sound. groups_made s x seat action answer) zone boot_groups refl run legal
+    (λ s x seat action answer sound. groups_made s x seat action answer) zone (boot_groups zone) refl run legal
 
 -- ---- sums over a range
 -- of the numbers below n those of a range below n are as many as it has
@@ -386,11 +386,11 @@ module _ (groups : List Group) (m : ℕ) where
       omega arith
 
 -- the usage of a group is the pages charged to it and to those below it
-pub charged_is_usage : (zone : Zone) (run : Run) → IsLegalRun zone run → (g : ℕ) → charged_in_subtree run g ≡ usage_of (state_of zone run) g
+pub charged_is_usage : (zone : Zone) (run : Run) → IsLegalRun zone run → (g : ℕ) → charged_in_subtree zone run g ≡ usage_of (state_of zone run) g
 charged_is_usage zone run legal g =
     let told = groups_in_run zone run legal in
-    let e = counted_so_along (charged_in (in_subtree (groups_of run) g)) (charged_out (in_subtree (groups_of run) g)) (total (groups_of run) g) zone
-    (nothing_at_first (groups_of run) g zone) (λ before seat action answer legal ok. moves_allowed (groups_of run) g zone before seat action answer legal ok)
+    let e = counted_so_along (charged_in (in_subtree (groups_of zone run) g)) (charged_out (in_subtree (groups_of zone run) g)) (total (groups_of zone run) g) zone
+    (nothing_at_first (groups_of zone run) g zone) (λ before seat action answer legal ok. moves_allowed (groups_of zone run) g zone before seat action answer legal ok)
     run legal in
-    let same : total (groups_of run) g (state_of zone run) ≡ usage_of (state_of zone run) g = ap (λ gs. total gs g (state_of zone run)) (sym told) in
+    let same : total (groups_of zone run) g (state_of zone run) ≡ usage_of (state_of zone run) g = ap (λ gs. total gs g (state_of zone run)) (sym told) in
     omega arith

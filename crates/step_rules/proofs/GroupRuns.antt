@@ -19,7 +19,7 @@ use Rattle.step_rules.proofs.SmallRuns.{legal_each, root_has_room, front_block}
 
 -- the root, a group with a limit, and one below it
 abbrev three : Option ℕ → List Group
-three limit = boot_root ∷ record (new_row 1 (codes "/a")) { limit = limit } ∷ new_row 2 (codes "/a/b") ∷ []
+three limit = boot_root small_zone ∷ record (new_row 1 (codes "/a")) { limit = limit } ∷ new_row 2 (codes "/a/b") ∷ []
 
 -- who is above the lower one
 data Above (m : ℕ) : Type 0 where
@@ -62,16 +62,16 @@ upper_is_over limit usage n over = record {
     by_place m (IsUpper e) full = subst (λ (k : ℕ). in_subtree (three limit) k 1 ≡ true) e refl
     by_place m (IsLower e) full = absurd (true≢false (subst (λ (k : ℕ). has_room (three limit) usage k n ≡ false) (sym e) full))
 
-first_number : IsLeastFreeNumber boot_groups 1
+first_number : IsLeastFreeNumber (boot_groups small_zone) 1
 unfolding has_group group_at
 first_number = record { free = refl; least = λ k few. by_number k few }
   where
-    by_number : (k : ℕ) → k < 1 → has_group boot_groups k ≡ true
+    by_number : (k : ℕ) → k < 1 → has_group (boot_groups small_zone) k ≡ true
     by_number zero few = refl
     by_number (suc k) few = absurd (omega (arith, few))
 
 abbrev two : Option ℕ → List Group
-two limit = boot_root ∷ record (new_row 1 (codes "/a")) { limit = limit } ∷ []
+two limit = boot_root small_zone ∷ record (new_row 1 (codes "/a")) { limit = limit } ∷ []
 
 second_number : (limit : Option ℕ) → IsLeastFreeNumber (two limit) 2
 unfolding has_group group_at

@@ -1,6 +1,6 @@
 -- Each group that keeps a frame or a page is there after every legal run. Serves `keepers_are_there` and, through
 -- `homed_run`, the laws of usage and peaks and of what holds while the lock is free.
-use Rattle.std.proofs.Common.{◌≡◌, ℕ, ◌+◌, ◌-◌, ◌<◌, ◌==◌, true, Some, refl, sym, ◌∙◌, ap, subst, arith, inl, inr}
+use Rattle.std.proofs.Common.{◌≡◌, ℕ, ◌+◌, ◌-◌, ◌<◌, ◌==◌, true, Some, refl, sym, ◌∙◌, ap, subst, arith, inl, inr, min}
 use Rattle.std.proofs.lemmas.Bool.{cases_Bool, cases_lt, false≢true}
 use Rattle.group_tree.specs.Groups.{has_group}
 use Rattle.group_tree.proofs.GroupLemmas.{AreGroups-initial}
@@ -32,7 +32,7 @@ homes_allowed s seat action answer sound h ok =
 
 pub homes_boot : (zone : Zone) → IsHomed (at_boot zone)
 homes_boot zone = record {
-  tree = AreGroups-initial (most_groups - 1) (omega arith);
+  tree = AreGroups-initial (min zone.groups most_groups - 1) (omega arith);
   frames = λ f. refl;
   stocks = λ q some. absurd (omega arith);
   beyond = λ q other. refl;

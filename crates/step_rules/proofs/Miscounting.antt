@@ -23,7 +23,7 @@ fully_is_legal : IsLegalRun small_zone referred_fully
 fully_is_legal = beginnings_are_legal small_zone at_the_borders borders_are_kept 6
 
 -- the parts of a miscount in a row
-miscounts : {run : Run} {step : Step × Answer} → IsLegalRun small_zone run → KeepsLimits run step.0.action step.1
+miscounts : {run : Run} {step : Step × Answer} → IsLegalRun small_zone run → KeepsLimits small_zone run step.0.action step.1
     → ReturnsNoFrameTwice run step.0.seat step.0.action step.1 → BreaksPromise (run ++ step ∷ []) → MiscountsReferences run step
 miscounts before limits returns breaks = record { before = before; limits = limits; returns = returns; breaks = breaks }
 

@@ -1,5 +1,5 @@
 -- How a step moves usage, and the greatest usage since a group was made. Serves `only_grants_raise_usage`, `peaks_are_kept`.
-use Rattle.std.proofs.Common.{◌≡◌, ℕ, ◌+◌, ◌-◌, ◌≤◌, ◌==◌, Bool, true, false, List, [], ◌∷◌, length, take, refl, sym, ◌∙◌, ap, subst, arith, inl}
+use Rattle.std.proofs.Common.{◌≡◌, ℕ, ◌+◌, ◌-◌, ◌≤◌, ◌==◌, Bool, true, false, List, [], ◌∷◌, length, take, refl, sym, ◌∙◌, ap, subst, arith, inl, min}
 use Rattle.std.proofs.Common.{inr, cond, eq-eqb, length-append}
 use Rattle.std.specs.Prelude.{◌⊎◌, max}
 use Rattle.std.proofs.lemmas.Bool.{cases_eq, cases_lt, cases_Bool, ne_eqb, true≢false}
@@ -202,7 +202,7 @@ peak_boot zone = record {
     nothing k = take_all k [] (omega arith)
 
     root_is : has_group (at_boot zone).groups 0 ≡ true
-    root_is = root_there (at_boot zone).groups (AreGroups-initial (most_groups - 1) (omega arith))
+    root_is = root_there (at_boot zone).groups (AreGroups-initial (min zone.groups most_groups - 1) (omega arith))
 
     usage_boot : usage_of (at_boot zone) 0 ≡ 0
     usage_boot =

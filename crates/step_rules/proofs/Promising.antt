@@ -239,7 +239,7 @@ module _ (zone : Zone) (run : Run) (legal : IsLegalRun zone run) (shown : Shown)
       if is_in_subtree (sym is.groups i) g (sym (is.stocks (p + 1)) i).group then (sym (is.stocks (p + 1)) i).pages else 0))
 
   current_shown : (g : ℕ) → has_group shown.groups g ≡ true →
-      (shown.current g ≡ kept_in_subtree shown s.zone.frames g + prepaid_in_subtree shown s.zone.cpus g) × (shown.current g ≡ charged_in_subtree run g)
+      (shown.current g ≡ kept_in_subtree shown s.zone.frames g + prepaid_in_subtree shown s.zone.cpus g) × (shown.current g ≡ charged_in_subtree zone run g)
   current_shown g here =
       let told = is.current g (ap (λ (gs : List Group). has_group gs g) (sym is.groups) ∙ here) in
       (told ∙ placed.usage g ∙ (λ i. kept_shown g i + prepaid_shown g i), told ∙ sym (charged_is_usage zone run legal g))
@@ -258,7 +258,7 @@ taken_next (y ∷ ys) zero x e = ap (λ z. z ∷ []) (same e)
 taken_next (y ∷ ys) (suc k) x e = ap (λ zs. y ∷ zs) (taken_next ys k x e)
 
 limits_kept : (zone : Zone) (run : Run) → IsLegalRun zone run → (seat : ℕ) (action : Action) (answer : Answer) →
-    Allows (state_of zone run) seat action answer → KeepsLimits run action answer
+    Allows (state_of zone run) seat action answer → KeepsLimits zone run action answer
 limits_kept zone run legal seat (Grant g n) Granted ok = (
   alive,
   λ m below.

@@ -102,7 +102,7 @@ current_shown g here = elim (cases_eq 0 g) [
   | inr ne ↦ absurd (false≢true (sym (no_other ne) ∙ here))
 ]
   where
-    no_other : (0 ≡ g → ⊥) → has_group boot_groups g ≡ false
+    no_other : (0 ≡ g → ⊥) → has_group (boot_groups small_zone) g ≡ false
     no_other ne = rw (ne_eqb 0 g ne) refl
 
 pub right_is_shown : IsShown s shown_rightly
@@ -244,7 +244,7 @@ pub for_no_group_is_wrong : IsWrongAfter [] prepaid_for_no_group
 unfolding has_group group_at
 for_no_group_is_wrong promise =
     let paid = promise.stocks 1 (omega arith) in
-    false≢true (subst (λ (g : ℕ). has_group boot_groups g ≡ true) (sym (some_number 5 paid.1.0 paid.1.1)) paid.1.2)
+    false≢true (subst (λ (g : ℕ). has_group (boot_groups small_zone) g ≡ true) (sym (some_number 5 paid.1.0 paid.1.1)) paid.1.2)
   where
     some_number : (a b : ℕ) → Some a ≡ Some b → a ≡ b
     some_number a b z = cc

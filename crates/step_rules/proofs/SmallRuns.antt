@@ -23,11 +23,11 @@ legal_each s (e ∷ run) each zero = each.0
 legal_each s (e ∷ run) each (suc k) = legal_each (next s e) run each.1 k
 
 -- the root has no limit
-pub root_has_room : (usage : ℕ → ℕ) (n : ℕ) → PathHasRoom boot_groups usage 0 n
+pub root_has_room : (usage : ℕ → ℕ) (n : ℕ) → PathHasRoom (boot_groups small_zone) usage 0 n
 unfolding limit_of group_at
 root_has_room usage n m below =
     elim (cases_eq 0 m) [
-      | inl e ↦ subst (λ (k : ℕ). has_room boot_groups usage k n ≡ true) e refl
+      | inl e ↦ subst (λ (k : ℕ). has_room (boot_groups small_zone) usage k n ≡ true) e refl
       | inr ne ↦ rw (ne_eqb 0 m ne) refl
     ]
 

@@ -106,11 +106,11 @@ flag_made g s x seat Lock answer holds made = holds
 flag_made g s x seat action answer holds made = holds
 
 -- the root's flag is off at first
-flag_boot : (g : ℕ) → is_oom_group boot_groups g ≡ false
+flag_boot : (zone : Zone) (g : ℕ) → is_oom_group (boot_groups zone) g ≡ false
 unfolding is_oom_group group_at
-flag_boot g = by_number (0 == g)
+flag_boot zone g = by_number (0 == g)
   where
-    by_number : (b : Bool) → option_map_or (λ (x : Group). x.oom_group) (cond b (Some boot_root) None) false ≡ false
+    by_number : (b : Bool) → option_map_or (λ (x : Group). x.oom_group) (cond b (Some (boot_root zone)) None) false ≡ false
     by_number true = refl
     by_number false = refl
 
@@ -130,20 +130,20 @@ killed_made g s x seat Lock answer holds made = holds
 killed_made g s x seat action answer holds made = holds
 
 -- the root has no limit at first
-limit_boot : (g : ℕ) → limit_of boot_groups g ≡ None
+limit_boot : (zone : Zone) (g : ℕ) → limit_of (boot_groups zone) g ≡ None
 unfolding limit_of group_at
-limit_boot g = by_number (0 == g)
+limit_boot zone g = by_number (0 == g)
   where
-    by_number : (b : Bool) → option_and_then (λ (x : Group). x.limit) (cond b (Some boot_root) None) ≡ None
+    by_number : (b : Bool) → option_and_then (λ (x : Group). x.limit) (cond b (Some (boot_root zone)) None) ≡ None
     by_number true = refl
     by_number false = refl
 
 pub groups_follow_the_run : AllGroupsFollowRun
 groups_follow_the_run zone run legal g = record {
   limit = told_run (λ x seat action answer. limit_after g x action answer) (HasLimit g) (limit_still g)
-      (λ s x seat action answer sound. limit_made g s x seat action answer) zone None (λ there. limit_boot g) run legal;
+      (λ s x seat action answer sound. limit_made g s x seat action answer) zone None (λ there. limit_boot zone g) run legal;
   flag = told_run (λ x seat action answer. flag_after g x action answer) (HasFlag g) (flag_still g)
-      (λ s x seat action answer sound. flag_made g s x seat action answer) zone false (λ there. flag_boot g) run legal;
+      (λ s x seat action answer sound. flag_made g s x seat action answer) zone false (λ there. flag_boot zone g) run legal;
   killed = told_run (λ x seat action answer. killed_after g x action answer) (IsKilled g) (killed_still g)
       (λ s x seat action answer sound. killed_made g s x seat action answer) zone false refl run legal;
 }

@@ -116,7 +116,7 @@ unfrozen_in_use = placed ++ zone_makes (Unfreeze 0 1) Done ∷ zone_makes (Unfre
 -- twice: it only counts references wrongly.
 pub record MiscountsReferences (run : Run) (step : Step × Answer) : Type 0 where
   pub before : IsLegalRun small_zone run
-  pub limits : KeepsLimits run step.0.action step.1
+  pub limits : KeepsLimits small_zone run step.0.action step.1
   pub returns : ReturnsNoFrameTwice run step.0.seat step.0.action step.1
   pub breaks : BreaksPromise (run ++ step ∷ [])
 
@@ -151,7 +151,7 @@ shown_rightly = record {
   areas = record { at = 1; order = 0 } ∷ [];
   lists = λ cpu. [];
   keeper = λ f. if f == 0 then Some 0 else None;
-  groups = boot_groups;
+  groups = boot_groups small_zone;
   stocks = λ cpu. if cpu == 1 then record { group = Some 0; pages = 1; is_drained = false } else no_stock;
   current = λ g. 2;
 }
@@ -206,13 +206,13 @@ no_group_seen = record shown_rightly { groups = [] }
 -- a group is shown that was never made; nothing is charged to it
 abbrev pub group_too_many : Shown
 group_too_many = record shown_rightly {
-  groups = boot_groups ++ new_row 1 (codes "/a") ∷ [];
+  groups = boot_groups small_zone ++ new_row 1 (codes "/a") ∷ [];
   current = λ g. if g == 1 then 0 else 2;
 }
 
 -- the root is shown with a limit that was never set
 abbrev pub limit_never_set : Shown
-limit_never_set = record shown_rightly { groups = record boot_root { limit = Some 5 } ∷ [] }
+limit_never_set = record shown_rightly { groups = record (boot_root small_zone) { limit = Some 5 } ∷ [] }
 
 -- ---- what is shown of free frames alone
 -- what is shown if both frames are free and nothing is charged
@@ -221,7 +221,7 @@ shown_free = record {
   areas = record { at = 0; order = 1 } ∷ [];
   lists = λ cpu. [];
   keeper = λ f. None;
-  groups = boot_groups;
+  groups = boot_groups small_zone;
   stocks = λ cpu. no_stock;
   current = λ g. 0;
 }

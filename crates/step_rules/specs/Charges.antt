@@ -11,7 +11,7 @@ use Rattle.step_rules.specs.declared.step.Answer.TheVariants.{Done, Granted, Num
 use Rattle.step_rules.specs.After.{Run}
 use Rattle.step_rules.specs.Units.{units_after_run}
 use Rattle.step_rules.specs.Returns.{counted_with_run}
-use Rattle.step_rules.specs.State.{boot_groups}
+use Rattle.step_rules.specs.State.{Zone, boot_groups}
 
 -- the groups after one more step
 abbrev pub groups_after : List Group → Action → Answer → List Group
@@ -22,8 +22,8 @@ groups_after groups (Remove g) Done = without_group groups g
 groups_after groups action answer = groups
 
 -- the root, and the groups that the run made and didn't remove
-abbrev pub groups_of : Run → List Group
-groups_of run = fold (λ old e. groups_after old e.0.action e.1) boot_groups run
+abbrev pub groups_of : Zone → Run → List Group
+groups_of zone run = fold (λ old e. groups_after old e.0.action e.1) (boot_groups zone) run
 
 -- the pages that a step charges to the groups that pass the test: those granted to one of them
 abbrev pub charged_in : (ℕ → Bool) → Run → ℕ → Action → Answer → ℕ
@@ -44,7 +44,7 @@ charged_out test run seat action answer = 0
 -- The pages charged to the group and those below it. Grants and returns of the whole run count by group numbers, in the
 -- tree as it is after the run. That is right although a number may be that of a removed group: a group is removed only
 -- with usage 0, so what was granted to it and what was uncharged cancel.
-abbrev pub charged_in_subtree : Run → ℕ → ℕ
-charged_in_subtree run g =
-    counted_with_run (charged_in (in_subtree (groups_of run) g)) run
-    - counted_with_run (charged_out (in_subtree (groups_of run) g)) run
+abbrev pub charged_in_subtree : Zone → Run → ℕ → ℕ
+charged_in_subtree zone run g =
+    counted_with_run (charged_in (in_subtree (groups_of zone run) g)) run
+    - counted_with_run (charged_out (in_subtree (groups_of zone run) g)) run

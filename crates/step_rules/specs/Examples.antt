@@ -11,9 +11,9 @@ use Rattle.step_rules.specs.declared.step.Answer.TheVariants.{Stocked, Pages, Gr
 use Rattle.step_rules.specs.State.{Zone, State, at_boot, no_part}
 use Rattle.step_rules.specs.After.{Run, cpu_makes, zone_makes}
 
--- a zone of two frames and two CPUs
+-- a zone of two frames and two CPUs, with room for 64 groups
 abbrev pub small_zone : Zone
-small_zone = record { frames = 2; cpus = 2 }
+small_zone = record { frames = 2; cpus = 2; groups = 64 }
 
 -- CPU 1 gets frame 0 on its list, and a stock of two pages of the root
 abbrev pub first_visit : Run

@@ -92,11 +92,11 @@ prepaid_in_subtree shown cpus g =
 -- ---- no grant passed a limit
 -- A grant is for a group that isn't killed. With it, the pages charged to the group and to each ancestor are at most
 -- the limit last given there, if any.
-abbrev pub KeepsLimits : Run → Action → Answer → Type 0
-KeepsLimits run (Grant g n) Granted = (was_killed run g ≡ false)
-    × ((m : ℕ) → in_subtree (groups_of run) m g ≡ true
-    → fits_limit (limit_given run m) (charged_in_subtree run m + n) ≡ true)
-KeepsLimits run action answer = Unit {0}
+abbrev pub KeepsLimits : Zone → Run → Action → Answer → Type 0
+KeepsLimits zone run (Grant g n) Granted = (was_killed run g ≡ false)
+    × ((m : ℕ) → in_subtree (groups_of zone run) m g ≡ true
+    → fits_limit (limit_given run m) (charged_in_subtree zone run m + n) ≡ true)
+KeepsLimits zone run action answer = Unit {0}
 
 -- ---- no frame is returned twice for one use
 -- no seat has a reference on the frame: each gave up as many as it was given
@@ -136,15 +136,15 @@ ReturnsNoFrameTwice run seat action answer = Unit {0}
 -- run, when it was made, kept the limits, returned no frame twice for one use, and counted references as its answer
 -- says.
 pub record Promise (zone : Zone) (run : Run) (shown : Shown) : Type 0 where
-  pub groups : shown.groups ≡ groups_of run
+  pub groups : shown.groups ≡ groups_of zone run
   pub areas : (free : List Bool) × (length free ≡ zone.frames) × AreMaximalBlocks free shown.areas
   pub frames : (f : ℕ) → f < zone.frames → IsInOnePlace zone run shown f
   pub beyond : (f : ℕ) → zone.frames ≤ f → (p : FramePlace) → ¬ Has shown f p
   pub stocks : (cpu : ℕ) → 1 ≤ (shown.stocks cpu).pages → IsPrepaid zone shown cpu
   pub current : (g : ℕ) → has_group shown.groups g ≡ true
       → (shown.current g ≡ kept_in_subtree shown zone.frames g + prepaid_in_subtree shown zone.cpus g)
-      × (shown.current g ≡ charged_in_subtree run g)
-  pub limits : (k : ℕ) → IfSome (slice_get run k) (λ e. KeepsLimits (take k run) e.0.action e.1)
+      × (shown.current g ≡ charged_in_subtree zone run g)
+  pub limits : (k : ℕ) → IfSome (slice_get run k) (λ e. KeepsLimits zone (take k run) e.0.action e.1)
   pub returns : (k : ℕ) → IfSome (slice_get run k) (λ e. ReturnsNoFrameTwice (take k run) e.0.seat e.0.action e.1)
   pub references : (k : ℕ) → IfSome (slice_get run k)
       (λ e. CountsReferences zone (take k run) (take (k + 1) run) e.0.seat e.0.action e.1)
@@ -159,5 +159,5 @@ ThePromiseIsKept = (zone : Zone) (run : Run) (shown : Shown) → IsLegalRun zone
 -- says. This holds of each beginning of the run, even if it leaves the lock held, since the beginning is legal too.
 abbrev pub EachStepIsPromised : Type 0
 EachStepIsPromised = (zone : Zone) (run : Run) → IsLegalRun zone run → (k : ℕ) → IfSome (slice_get run k)
-    (λ e. KeepsLimits (take k run) e.0.action e.1 × ReturnsNoFrameTwice (take k run) e.0.seat e.0.action e.1
+    (λ e. KeepsLimits zone (take k run) e.0.action e.1 × ReturnsNoFrameTwice (take k run) e.0.seat e.0.action e.1
     × CountsReferences zone (take k run) (take (k + 1) run) e.0.seat e.0.action e.1)

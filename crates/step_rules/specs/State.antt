@@ -1,5 +1,5 @@
 -- The state after a list of steps.
-use Rattle.std.specs.Prelude.{ℕ, ◌+◌, ◌-◌, ◌==◌, ◌&&◌, ◌++◌, not, nat_le, nat_lt, zero, suc, Bool, true, false, Option, None}
+use Rattle.std.specs.Prelude.{ℕ, ◌+◌, ◌-◌, ◌==◌, ◌&&◌, ◌++◌, not, nat_le, nat_lt, zero, suc, Bool, true, false, Option, None, min}
 use Rattle.std.specs.Prelude.{List, [], ◌∷◌, map, filter, if◌then◌else◌}
 use Rattle.std.specs.List.{range_with_len, slice_index_or}
 use Rattle.group_tree.specs.declared.group.Group.{Group}
@@ -23,10 +23,11 @@ most_fresh = 32
 abbrev pub most_pins : ℕ
 most_pins = 256
 
--- the sizes of a zone: how many frames it has, and how many CPUs
+-- the sizes of a zone: how many frames it has, how many CPUs, and how many groups it has room for
 pub record Zone : Type 0 where
   pub frames : ℕ
   pub cpus : ℕ
+  pub groups : ℕ
 
 -- a CPU's stock: the group of its last fill, the pages that it holds, and whether it was drained since
 pub record PartStock : Type 0 where
@@ -66,20 +67,20 @@ no_stock = record { group = None; pages = 0; is_drained = false }
 abbrev pub no_part : Part
 no_part = record { list = []; fresh = []; back = []; stock = no_stock; book = 0; unreported = 0; reported = 0 }
 
--- the root at boot, below which as many groups may exist as a tree has room for
-abbrev pub boot_root : Group
-boot_root = the_root (most_groups - 1)
+-- the root at boot; with those that may exist below it there are as many groups as the zone has room for
+abbrev pub boot_root : Zone → Group
+boot_root zone = the_root (min zone.groups most_groups - 1)
 
 -- the groups at boot: the root alone
-abbrev pub boot_groups : List Group
-boot_groups = boot_root ∷ []
+abbrev pub boot_groups : Zone → List Group
+boot_groups zone = boot_root zone ∷ []
 
 -- at boot the lock and each frame are free, the root is the only group, and nothing is referred to, lent or pending
 abbrev pub at_boot : Zone → State
 at_boot zone = record {
   zone = zone;
   hold = Unheld;
-  groups = boot_groups;
+  groups = boot_groups zone;
   killed = λ g. false;
   phases = λ f. InZone;
   references = λ seat f. 0;

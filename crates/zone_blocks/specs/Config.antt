@@ -1,5 +1,6 @@
 -- The sizes that a zone may be booted with.
 use Rattle.std.specs.Prelude.{◌≤◌, ℕ, false}
+use Rattle.group_tree.specs.Bounds.{most_groups}
 use Rattle.zone_blocks.specs.declared.choices.Choices.{Choices}
 use Rattle.zone_blocks.specs.declared.config.Config.{Config}
 
@@ -27,15 +28,18 @@ most_stock = 64
 abbrev pub most_reclaim_batch : ℕ
 most_reclaim_batch = 64
 
--- The choices of a boot that makes none: passes of reclaim begin with the least group, groups may be killed, and a
--- round wants the pages that are missing.
+-- The choices of a boot that makes none: passes of reclaim begin with the least group, groups may be killed, a round
+-- wants the pages that are missing, and 64 groups may exist.
 abbrev pub no_choices : Choices
-no_choices = record { is_proportional = false; is_no_kill = false; reclaim_batch = 1 }
+no_choices = record { is_proportional = false; is_no_kill = false; reclaim_batch = 1; groups = 64 }
 
--- a round of reclaim has to want at least one page, and at most the greatest number
+-- a round of reclaim has to want at least one page, and at most the greatest number; there is room for the root, and at
+-- most for the greatest number of groups
 pub record AreValidChoices (choices : Choices) : Type 0 where
   pub reclaim_batch_low : 1 ≤ choices.reclaim_batch
   pub reclaim_batch_high : choices.reclaim_batch ≤ most_reclaim_batch
+  pub groups_low : 1 ≤ choices.groups
+  pub groups_high : choices.groups ≤ most_groups
 
 -- every size and every choice is in its range, and `high` is at least `batch`
 pub record IsValidConfig (c : Config) : Type 0 where

@@ -1,6 +1,7 @@
--- Each number that was passed is a group's, and not all 64 are.
+-- Each number that was passed is a group's, and not all `most_groups` are.
 use Rattle.std.proofs.Common.{◌≡◌, ◌≤◌, ◌∙◌, ℕ, Option, None, Some, ap, arith, below_more, length, sym}
 use Rattle.std.specs.Option.{SomeIff}
+use Rattle.group_tree.specs.Bounds.{most_groups}
 use Rattle.group_tree.specs.Groups.{has_group}
 use Rattle.group_tree.proofs.GroupLemmas.{length-full}
 use Rattle.mem_core.proofs.due.least_free.Goals as goal
@@ -26,5 +27,5 @@ loop-number-preserved c =
 
 pub unreachable-requires : goal.unreachable-requires
 unreachable-requires c =
-    let all : 64 ≤ length c.args.tree.now = length-full c.args.tree.now 64 (λ k less. c.loop-number.invariant k (omega arith)) in
+    let all : most_groups ≤ length c.args.tree.now = length-full c.args.tree.now most_groups (λ k less. c.loop-number.invariant k (omega arith)) in
     omega arith

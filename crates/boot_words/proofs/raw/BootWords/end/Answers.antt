@@ -9,7 +9,5 @@ use Rattle.boot_words.proofs.raw.BootWords.end.Goals as goal
 pub returns-clause-end : goal.returns-clause-end
 returns-clause-end c =
     let final = c.close_with.ensures.values.2 in
-    let laid = c.self.invariant in
-    let zone : record { frames = c.self.inside.table.shared.key.frames; cpus = c.self.inside.table.shared.key.cpus } ≡ zone_of_boot c.args.self
-    = λ i. record { frames = (laid.frames_are ∙ ap (λ t. t.frames) c.self.view_is) i; cpus = (laid.cpus_are ∙ ap (λ t. t.cpus) c.self.view_is) i } in
+    let zone = c.self.invariant.zone_is ∙ ap zone_of_boot c.self.view_is in
     subst (λ (y : Zone × List Past). IsEndOfRun y.0 (slots_items c.close_with.result.words) y.1) (λ i. (zone i, ap (λ r. r.pasts) c.seat.view_is i)) (end_of_run _ _ _ _ _ final)

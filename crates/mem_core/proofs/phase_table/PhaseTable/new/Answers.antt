@@ -1,5 +1,6 @@
 -- All frames are of the first class.
-use Rattle.std.proofs.Common.{◌≡◌, ℕ, ◌≤◌, List, length, refl, sym, subst, arith, set, replicate}
+use Rattle.std.proofs.Common.{◌≡◌, ℕ, ◌+◌, ◌≤◌, List, length, refl, sym, subst, arith, set, replicate}
+use Rattle.group_tree.specs.Bounds.{most_groups}
 use Rattle.step_rules.specs.declared.phase.Phase.{Phase}
 use Rattle.step_rules.specs.declared.phase.Phase.TheVariants.{InZone}
 use Rattle.mem_core.specs.Counted.{IsTally, class_in, keeper_class, transit_class}
@@ -21,7 +22,7 @@ invariant_of-result c =
     record {
       few = omega (arith, c.in_ok-phases.ensures.number, c.requires);
       keepers = c.in_ok-kept.ensures.number;
-      kept = begins keeper_class n 65 xs c.in_ok-kept.kept.items refl (omega arith) c.in_ok-phases.ensures.items c.in_ok-kept.ensures.sizes;
+      kept = begins keeper_class n (most_groups + 1) xs c.in_ok-kept.kept.items refl (omega arith) c.in_ok-phases.ensures.items c.in_ok-kept.ensures.sizes;
       cpus = c.in_ok-in_transit.ensures.number;
       in_transit =
           begins transit_class n 67 xs c.in_ok-in_transit.in_transit.items refl (omega arith) c.in_ok-phases.ensures.items c.in_ok-in_transit.ensures.sizes;

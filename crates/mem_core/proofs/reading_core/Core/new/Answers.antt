@@ -1,5 +1,6 @@
 -- At first all is as at boot.
 use Rattle.std.proofs.Common.{◌≡◌, ◌*◌, ◌^◌, ◌<◌, lit<, [], refl, sym, ◌∙◌, ap, subst, arith}
+use Rattle.group_tree.specs.Bounds.{most_groups}
 use Rattle.step_rules.specs.State.{Zone, State, at_boot}
 use Rattle.step_rules.specs.Invariant.{KeepsInvariant, IsHomed}
 use Rattle.step_rules.proofs.Runs.{sound_boot}
@@ -16,10 +17,10 @@ use Rattle.mem_core.specs.Accounts.{Account}
 use Rattle.mem_core.proofs.Accounting.{tell_start}
 use Rattle.mem_core.proofs.reading_core.Core.new.Goals as goal
 
-new_peaks : HaveSmallPeaks (replicate 64 new_account)
+new_peaks : HaveSmallPeaks (replicate most_groups new_account)
 new_peaks k d h =
-    let len = length-replicate {A = Account} 64 new_account in subst (λ (a : Account). a.peak < 2 ^ 104)
-    (sym (get_or-replicate 64 k new_account d (omega arith))) (lit< tt)
+    let len = length-replicate {A = Account} most_groups new_account in subst (λ (a : Account). a.peak < 2 ^ 104)
+    (sym (get_or-replicate most_groups k new_account d (omega arith))) (lit< tt)
 
 pub set_areas-requires-clause-frames : goal.set_areas-requires-clause-frames
 set_areas-requires-clause-frames c = c.in_ok-areas.ensures.frames ∙ sym (ap (λ (t : State). t.zone.frames) c.in_ok-rows.ensures.state)
@@ -62,5 +63,5 @@ returns-clause-empty c =
       steps = refl;
       state = shown_is inside ∙ boot ∙ ap at_boot (sym same);
       accounts = tell_start (s.zone) c.in_ok-accounts.accounts.items (λ m. ap (λ l. account_in l m) c.in_ok-accounts.ensures.items
-          ∙ replicate_all 64 new_account m);
+          ∙ replicate_all most_groups new_account m);
     }

@@ -2,6 +2,7 @@
 use Rattle.std.proofs.Common.{◌≡◌, ℕ, ◌+◌, length, ◌∙◌, ap, subst, arith}
 use Rattle.std.specs.Prelude.{if◌then◌else◌}
 use Rattle.std.specs.List.{slice_index_or}
+use Rattle.group_tree.specs.Bounds.{most_groups}
 use Rattle.group_tree.specs.Groups.{in_subtree}
 use Rattle.step_rules.specs.State.{sum_to}
 use Rattle.mem_core.specs.{state_in, IsTally, class_in, keeper_class}
@@ -18,7 +19,7 @@ pub returns-clause-kept : goal.returns-clause-kept
 returns-clause-kept c =
     let s = state_in c.args.self.now in
     let sizes = c.kept-kept.result.now in
-    let all : c.loop-number.number ≡ 64 = omega arith in
+    let all : c.loop-number.number ≡ most_groups = omega arith in
     let tally : IsTally s.zone.frames (λ f. keeper_class (s.phases f)) sizes =
     subst (λ (n : ℕ). IsTally n (λ f. keeper_class (s.phases f)) sizes) c.requires.fits.phases c.kept-kept.ensures.sizes in
     c.loop-number.invariant.sum
