@@ -27,7 +27,7 @@ use Rattle.log_check.specs.declared.line_fault.LineFault.TheVariants.{NoLineFeed
 use Rattle.log_check.specs.declared.line_fault.LineFault.TheVariants.{ByteOrderMark, Gzip, WideText, CarriageReturn, NoLine}
 use Rattle.log_check.specs.declared.verdict.IllegalStep.{IllegalStep}
 use Rattle.log_check.specs.{BeginsWith, BreaksRules, IsBadLine, IsLogVerdict, IsMisplaced, IsWhy, IsPromisedLog, NamesLeftOut, fault_of}
-use Rattle.log_check.specs.{begins_as_gzip, is_marked, is_returned, is_wide, zone_in, IsEnd, free_count, AreLeftOut, AreWholeLines, Checked}
+use Rattle.log_check.specs.{begins_as_gzip, is_marked, is_returned, is_wide, IsEnd, free_count, AreLeftOut, AreWholeLines, Checked}
 use Rattle.log_check.specs.{Concludes, EndsIllegally, HasChecked, HasRead, HasTakenLines, LeadsTo, ReadsOrJudges, TakesAfter, illegal_in}
 use Rattle.log_check.specs.declared.verdict.LogEnd.{LogEnd}
 
@@ -277,7 +277,7 @@ pub ends_well : (before : List ℕ) (r : LogReader) (s : CoreState) (end : LogEn
     → r.progress.checker ≡ Some s → r.left_out.count ≡ 0 → IsEnd (state_shown s) end → IsPromisedLog before r.progress.steps r.progress.free end
 ends_well before r s end h empty some none left =
     let to = leads before r s h some in
-    let zone = zone_in to.log in
+    let zone = to.log.zone in
     let all : to.made ≡ to.log.run = to.whole (nil_from_length h.left (sym h.left_is.count ∙ none)) in
     let legal = subst (IsLegalRun zone) all to.legal in
     let t = h.taken in
@@ -302,7 +302,7 @@ ends_left_out before r s h empty some more = (
     is = record { texts = t.are.texts; lines = t.lines; cut = t.are.cut; says = t.are.says; in_order = to.order };
     steps_are = to.steps_are;
     left = h.left;
-    end = record { lines = r.lines; steps = r.progress.steps; state = state_of (zone_in to.log) to.made };
+    end = record { lines = r.lines; steps = r.progress.steps; state = state_of to.log.zone to.made };
     leaves = to.leaves;
     count_is = h.left_is.count;
     first_are = h.left_is.first;

@@ -93,7 +93,7 @@ named_are from n e =
     let taken = number_codec.takes rest.0 found.0.0 found.0.1 found.1 in
     let parts : from ≡ texts (Fixed (codes "groups") ∷ number found.0.0 ∷ [])
     = after_is (codes "groups") from rest.0 rest.1 ∙ ap (λ (ts : List (List ℕ)). codes "groups" ∷ ts) taken.parts
-        ∙ ap (λ (ts : List (List ℕ)). codes "groups" ∷ decimal found.0.0 ∷ ts) (no_more found.0.1 both.0) in
+    ∙ ap (λ (ts : List (List ℕ)). codes "groups" ∷ decimal found.0.0 ∷ ts) (no_more found.0.1 both.0) in
     rw (← passed.1) (
       rw (← end.1, unequal found.0.0 no_choices.groups both.1) parts,
       leb-true 1 last.0 range.0,

@@ -13,12 +13,7 @@ use step_rules::step::{Action, Answer, NoteKey, Step};
 use zone_blocks::choices::Choices;
 
 /// Appends the sizes of the zone, without a line feed. It fails only if memory runs out.
-pub fn write_zone(
-    frames: u32,
-    cpus: u32,
-    groups: u32,
-    text: &mut Vec<u8>,
-) -> Result<(), AllocError>
+pub fn write_zone(frames: u32, cpus: u32, groups: u32, text: &mut Vec<u8>) -> Result<(), AllocError>
     ensures { IfOk result (λ _. text.new.items ≡ text.old.items ++ zone_text frames cpus groups) }
 {
     text.extend_from_slice(b"zone")?;
