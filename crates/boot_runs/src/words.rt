@@ -123,11 +123,12 @@ fn asks_for_what_the_words_say(rt: HostRuntime) {
 
 #[test]
 fn asks_for_the_choices(rt: HostRuntime) {
-    let words = "lint --proportional --reclaim-batch 64 --no-kill";
+    let words = "lint --proportional --reclaim-batch 64 --groups 8 --no-kill";
     let wanted = Choices {
         is_proportional: true,
         is_no_kill: true,
         reclaim_batch: 64,
+        groups: 8,
     };
     let asked = options(rt.alloc(), &words_of(&rt, words)).expect(&rt, words);
     expect_row(&rt, asked.sizes.choices == wanted, words);

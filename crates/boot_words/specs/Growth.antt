@@ -21,7 +21,8 @@ pub record SeesMore (before later : Past) : Type 0 where
   pub number : later.number ≡ before.number
   pub seen : later.seen ≡ before.seen ++ between
 
--- an answer with which no step changes the state; a step that is refused so isn't named by any answer of a command
+-- An answer with which no step changes the state. Of the steps that are refused so, only a get is named by the answer of
+-- a command, which says `zero` or `full` then.
 abbrev pub changes_nothing : Answer → Bool
 changes_nothing Illegal = true
 changes_nothing Zero = true

@@ -98,7 +98,7 @@ impl BootWords {
                     held,
                     pages,
                     pages - 1,
-                    Frame::new(0),
+                    Frame::new(0), // A consume credits no frame.
                 );
                 if found == cpu.last.word() {
                     cpu.last = Stock::HeldBy {

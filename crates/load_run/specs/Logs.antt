@@ -38,7 +38,7 @@ sizes_comment sizes =
 
 -- what a log of a boot with these sizes begins with: the zone's line, and the comment with the other sizes
 abbrev pub log_head_text : Config → List ℕ
-log_head_text sizes = (zone_text sizes.frames sizes.cpus ++ 10 ∷ []) ++ sizes_comment sizes
+log_head_text sizes = (zone_text sizes.frames sizes.cpus sizes.choices.groups ++ 10 ∷ []) ++ sizes_comment sizes
 
 -- the text of the line of this number, from 1, among all texts of the script; nothing if there is none
 abbrev pub text_at : List (List ℕ) → ℕ → List ℕ

@@ -163,7 +163,7 @@ pub(crate) fn log_head(alloc: Global, sizes: &Config) -> Result<Vec<u8>, AllocEr
     ensures { IfOk result (λ log. log.items ≡ log_head_text sizes.now) }
 {
     let mut log = Vec::new(alloc);
-    write_zone(sizes.frames, sizes.cpus, &mut log)?;
+    write_zone(sizes.frames, sizes.cpus, sizes.choices.groups, &mut log)?;
     log.push(b'\n')?;
     add_sizes(alloc, sizes, &mut log)?;
     Ok(log)

@@ -9,14 +9,13 @@ use Rattle.step_rules.proofs.Runs.{legal_from}
 use Rattle.mem_core.specs.declared.verdict.Verdict.TheVariants as verdict
 use Rattle.mem_core.proofs.Checking.{says_of_log}
 use Rattle.log_lines.specs.declared.line.LogLine.{LogLine}
-use Rattle.log_lines.specs.declared.line.LogLine.TheVariants as kinds
-use Rattle.log_lines.specs.Log.{IsLog, WholeLog, says_something}
+use Rattle.log_lines.specs.Log.{IsLog, WholeLog, says_something, zone_line}
 use Rattle.log_lines.proofs.BadLines.{bad_line_is_no_log, continues, filter_append, says_both}
-use Rattle.log_lines.proofs.Logs.{ended, line_of_entry, same_entry, same_log}
+use Rattle.log_lines.proofs.Logs.{ended, line_of_entry, same_entry, same_log, same_zone}
 use Rattle.log_check.specs.declared.verdict.LogVerdict.{LogVerdict}
 use Rattle.log_check.specs.declared.verdict.LogVerdict.TheVariants.{Legal, NotLegal, LeftOut, BadLine}
 use Rattle.log_check.specs.declared.verdict.IllegalStep.{IllegalStep}
-use Rattle.log_check.specs.Verdicts.{BreaksRules, IsLegalLog, IsLogVerdict, NamesLeftOut, says_legal, zone_in}
+use Rattle.log_check.specs.Verdicts.{BreaksRules, IsLegalLog, IsLogVerdict, NamesLeftOut, says_legal}
 
 steps_begin : (run all : List (Step × Answer)) (back : List LogLine) → map line_of_entry run ++ back ≡ map line_of_entry all
     → (more : List (Step × Answer)) × (all ≡ run ++ more)
@@ -32,20 +31,16 @@ steps_begin (x ∷ run) (y ∷ all) back e =
 record GoesOn (log front : WholeLog) : Type 0 where
   more : List (Step × Answer)
   run : log.run ≡ front.run ++ more
-  zone : zone_in log ≡ zone_in front
-
-same_zone : (f g c d : ℕ) → f ≡ g → c ≡ d → ◌≡◌ {A = Zone} (record { frames = f; cpus = c }) (record { frames = g; cpus = d })
-same_zone f g c d e h = cc
+  zone : log.zone ≡ front.zone
 
 goes_on_from : (log front : WholeLog) (back : List LogLine)
-    → kinds.Zone front.frames front.cpus ∷ (map line_of_entry front.run ++ back) ≡ kinds.Zone log.frames log.cpus ∷ map line_of_entry log.run
+    → zone_line front.zone ∷ (map line_of_entry front.run ++ back) ≡ zone_line log.zone ∷ map line_of_entry log.run
     → GoesOn log front
 goes_on_from log front back e =
-    let frames : log.frames ≡ front.frames = cc in
-    let cpus : log.cpus ≡ front.cpus = cc in
+    let heads : zone_line log.zone ≡ zone_line front.zone = cc in
     let tails : map line_of_entry front.run ++ back ≡ map line_of_entry log.run = cc in
     let steps = steps_begin front.run log.run back tails in
-    record { more = steps.0; run = steps.1; zone = same_zone log.frames front.frames log.cpus front.cpus frames cpus }
+    record { more = steps.0; run = steps.1; zone = same_zone log.zone front.zone heads }
 
 goes_on : (text front rest : List ℕ) (log start : WholeLog) → text ≡ front ++ rest → IsLog text log → IsLog front start → GoesOn log start
 goes_on text front rest log start parts is begin =
@@ -66,14 +61,14 @@ no_verdict k expected e = cc
 breaks_rules : (text : List ℕ) (illegal : IllegalStep) → BreaksRules text illegal → ¬ IsLegalLog text
 breaks_rules text illegal breaks legal =
     let on = goes_on text breaks.front breaks.rest legal.log breaks.log breaks.parts legal.is breaks.is in
-    let zone = zone_in breaks.log in
+    let zone = breaks.log.zone in
     let whole : IsLegalRun zone legal.log.run = subst (λ z. IsLegalRun z legal.log.run) on.zone legal.legal in
     let run : IsLegalRun zone breaks.log.run = legal_front zone breaks.log.run on.more (subst (IsLegalRun zone) on.run whole) in
     no_verdict (illegal.step - 1) illegal.expected ((says_of_log zone breaks.log.run (verdict.IllegalAt (illegal.step - 1) illegal.expected) breaks.first).1 run)
 
 leaves_out : (text : List ℕ) (steps count : ℕ) (first : List IllegalStep) → NamesLeftOut text steps count first → ¬ IsLegalLog text
 leaves_out text steps count first names legal =
-    names.not_legal (subst (λ (log : WholeLog). IsLegalRun (zone_in log) log.run) (same_log text legal.log names.log legal.is names.is) legal.legal)
+    names.not_legal (subst (λ (log : WholeLog). IsLegalRun log.zone log.run) (same_log text legal.log names.log legal.is names.is) legal.legal)
 
 pub exact : (all : Bool) (text : List ℕ) (end : LogVerdict) → IsLogVerdict all text end → IsTrue (says_legal end) ↔ IsLegalLog text
 exact all text (Legal steps free left) is = (λ yes. record { log = is.log; is = is.is; legal = is.legal }, λ legal. refl)

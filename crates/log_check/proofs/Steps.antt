@@ -14,19 +14,19 @@ use Rattle.step_rules.proofs.Runs.{legal_more, one_more, state_more}
 use Rattle.mem_core.specs.{CoreState, state_shown, Leads}
 use Rattle.log_lines.specs.declared.line.LogLine.{LogLine}
 use Rattle.log_lines.specs.declared.line.LogLine.TheVariants as kinds
-use Rattle.log_lines.specs.Log.{MayBegin, SayInOrder, WholeLog, says_something}
+use Rattle.log_lines.specs.Log.{MayBegin, SayInOrder, WholeLog, says_something, zone_line}
 use Rattle.log_lines.proofs.BadLines.{filter_append}
 use Rattle.log_lines.proofs.Logs.{line_of_entry}
 use Rattle.log_check.specs.declared.line_fault.LineFault.TheVariants.{SizesAgain, StepFirst}
 use Rattle.log_check.specs.declared.verdict.IllegalStep.{IllegalStep}
-use Rattle.log_check.specs.{IsIllegalAt, IsMisplaced, LeavesOut, Reached, at_start, line_on, step_on, zone_in, free_count, Checked, EndsIllegally}
+use Rattle.log_check.specs.{IsIllegalAt, IsMisplaced, LeavesOut, Reached, at_start, line_on, step_on, free_count, Checked, EndsIllegally}
 use Rattle.log_check.specs.{IsReason}
 use Rattle.log_check.proofs.Exact.{legal_front}
 use Rattle.log_check.specs.declared.reason.Reason.{Reason}
 
 -- the log with one step more
 abbrev pub log_more : WholeLog → Step → Answer → WholeLog
-log_more log step answer = record { frames = log.frames; cpus = log.cpus; run = one_more log.run step answer }
+log_more log step answer = record { zone = log.zone; run = one_more log.run step answer }
 
 -- ---- what is left out
 
@@ -36,7 +36,7 @@ pub left_more : (at : Reached) (lines more : List LogLine) (left others : List I
 left_more at [] more left others middle end one two =
     subst (λ (l : List IllegalStep). LeavesOut at more (l ++ others) end) (sym one.0) (subst (λ (x : Reached). LeavesOut x more others end) one.1 two)
 left_more at (kinds.Skipped ∷ lines) more left others middle end one two = left_more (line_on at) lines more left others middle end one two
-left_more at (kinds.Zone frames cpus ∷ lines) more left others middle end one two = left_more (line_on at) lines more left others middle end one two
+left_more at (kinds.Zone frames cpus groups ∷ lines) more left others middle end one two = left_more (line_on at) lines more left others middle end one two
 left_more at (kinds.Step step answer ∷ lines) more left others middle end (inl made) two =
     inl (made.0, left_more (step_on at (after at.state step.seat step.action answer)) lines more left others middle end made.1 two)
 left_more at (kinds.Step step answer ∷ lines) more left others middle end (inr x) two =
@@ -77,72 +77,72 @@ takes_skipped (Some s) count lines steps free left checked = record {
 
 -- ---- the sizes of the zone
 
-no_steps_legal : (frames cpus : ℕ) → IsLegalRun (record { frames = frames; cpus = cpus }) []
-no_steps_legal frames cpus k = tt
+no_steps_legal : (zone : Zone) → IsLegalRun zone []
+no_steps_legal zone k = tt
 
-no_steps_free : (frames cpus : ℕ) → free_count (record { frames = frames; cpus = cpus }) [] ≡ 0
+no_steps_free : (zone : Zone) → free_count zone [] ≡ 0
 unfolding sum_to
-no_steps_free frames cpus = refl
+no_steps_free zone = refl
 
-pub takes_zone : (count : ℕ) (lines : List LogLine) (frames cpus steps free : ℕ) (left : List IllegalStep) (s : CoreState)
-    → Checked None count lines steps free left → state_shown s ≡ at_boot (record { frames = frames; cpus = cpus })
-    → Checked (Some s) (count + 1) (lines ++ kinds.Zone frames cpus ∷ []) steps free left
-takes_zone count lines frames cpus steps free left s nothing state =
-    let boot = at_boot (record { frames = frames; cpus = cpus }) in
-    let leaves : LeavesOut (record { lines = 0; steps = 0; state = boot }) (lines ++ kinds.Zone frames cpus ∷ []) []
+pub takes_zone : (count : ℕ) (lines : List LogLine) (zone : Zone) (steps free : ℕ) (left : List IllegalStep) (s : CoreState)
+    → Checked None count lines steps free left → state_shown s ≡ at_boot zone
+    → Checked (Some s) (count + 1) (lines ++ zone_line zone ∷ []) steps free left
+takes_zone count lines zone steps free left s nothing state =
+    let boot = at_boot zone in
+    let leaves : LeavesOut (record { lines = 0; steps = 0; state = boot }) (lines ++ zone_line zone ∷ []) []
     (record { lines = count + 1; steps = 0; state = boot }) =
-    none_more _ lines (kinds.Zone frames cpus) [] _ _ (nothing.leaves boot) (refl, refl) in
+    none_more _ lines (zone_line zone) [] _ _ (nothing.leaves boot) (refl, refl) in
     record {
-      log = record { frames = frames; cpus = cpus; run = [] };
-      order = filter_append lines (kinds.Zone frames cpus ∷ []) ∙ ap (λ (ls : List LogLine). ls ++ kinds.Zone frames cpus ∷ []) nothing.empty;
+      log = record { zone = zone; run = [] };
+      order = filter_append lines (zone_line zone ∷ []) ∙ ap (λ (ls : List LogLine). ls ++ zone_line zone ∷ []) nothing.empty;
       steps_are = nothing.no_steps;
       made = [];
-      legal = no_steps_legal frames cpus;
+      legal = no_steps_legal zone;
       state = state;
-      free_is = nothing.none_free ∙ sym (no_steps_free frames cpus);
-      leaves = subst (λ (l : List IllegalStep). LeavesOut (at_start (record { frames = frames; cpus = cpus })) (lines ++ kinds.Zone frames cpus ∷ []) l (record { lines = count + 1; steps = steps; state = boot }))
-          (sym nothing.none_left) (subst (λ (n : ℕ). LeavesOut (at_start (record { frames = frames; cpus = cpus })) (lines ++ kinds.Zone frames cpus ∷ []) [] (record { lines = count + 1; steps = n; state = boot }))
+      free_is = nothing.none_free ∙ sym (no_steps_free zone);
+      leaves = subst (λ (l : List IllegalStep). LeavesOut (at_start zone) (lines ++ zone_line zone ∷ []) l (record { lines = count + 1; steps = steps; state = boot }))
+          (sym nothing.none_left) (subst (λ (n : ℕ). LeavesOut (at_start zone) (lines ++ zone_line zone ∷ []) [] (record { lines = count + 1; steps = n; state = boot }))
           (sym nothing.no_steps) leaves);
       whole = λ none. refl;
       none = λ legal. nothing.none_left;
     }
 
 -- the steps of no log are followed by the sizes of a zone
-no_zone_among : (run more : List (Step × Answer)) (frames cpus : ℕ) → map line_of_entry run ++ kinds.Zone frames cpus ∷ [] ≡ map line_of_entry more → ⊥
-no_zone_among [] [] frames cpus e = cc
-no_zone_among [] (y ∷ more) frames cpus e = cc
-no_zone_among (x ∷ run) [] frames cpus e = cc
-no_zone_among (x ∷ run) (y ∷ more) frames cpus e =
-    let tails : map line_of_entry run ++ kinds.Zone frames cpus ∷ [] ≡ map line_of_entry more = cc in
-    no_zone_among run more frames cpus tails
+no_zone_among : (run more : List (Step × Answer)) (zone : Zone) → map line_of_entry run ++ zone_line zone ∷ [] ≡ map line_of_entry more → ⊥
+no_zone_among [] [] zone e = cc
+no_zone_among [] (y ∷ more) zone e = cc
+no_zone_among (x ∷ run) [] zone e = cc
+no_zone_among (x ∷ run) (y ∷ more) zone e =
+    let tails : map line_of_entry run ++ zone_line zone ∷ [] ≡ map line_of_entry more = cc in
+    no_zone_among run more zone tails
 
-second_in_order : (log other : WholeLog) (frames cpus : ℕ)
-    → kinds.Zone log.frames log.cpus ∷ (map line_of_entry log.run ++ kinds.Zone frames cpus ∷ []) ≡ kinds.Zone other.frames other.cpus ∷ map line_of_entry other.run → ⊥
-second_in_order log other frames cpus e =
-    let tails : map line_of_entry log.run ++ kinds.Zone frames cpus ∷ [] ≡ map line_of_entry other.run = cc in
-    no_zone_among log.run other.run frames cpus tails
+second_in_order : (log other : WholeLog) (zone : Zone)
+    → zone_line log.zone ∷ (map line_of_entry log.run ++ zone_line zone ∷ []) ≡ zone_line other.zone ∷ map line_of_entry other.run → ⊥
+second_in_order log other zone e =
+    let tails : map line_of_entry log.run ++ zone_line zone ∷ [] ≡ map line_of_entry other.run = cc in
+    no_zone_among log.run other.run zone tails
 
-second_zone : (said : List LogLine) (log : WholeLog) (frames cpus : ℕ)
-    → said ≡ kinds.Zone log.frames log.cpus ∷ (map line_of_entry log.run ++ kinds.Zone frames cpus ∷ [])
-    → ((said ≡ []) ⊎ ((other : WholeLog) × (said ≡ kinds.Zone other.frames other.cpus ∷ map line_of_entry other.run))) → ⊥
-second_zone said log frames cpus e (inl none) = cc
-second_zone said log frames cpus e (inr other) = second_in_order log other.0 frames cpus (sym e ∙ other.1)
+second_zone : (said : List LogLine) (log : WholeLog) (zone : Zone)
+    → said ≡ zone_line log.zone ∷ (map line_of_entry log.run ++ zone_line zone ∷ [])
+    → ((said ≡ []) ⊎ ((other : WholeLog) × (said ≡ zone_line other.zone ∷ map line_of_entry other.run))) → ⊥
+second_zone said log zone e (inl none) = cc
+second_zone said log zone e (inr other) = second_in_order log other.0 zone (sym e ∙ other.1)
 
-pub refuses_zone : (count : ℕ) (lines : List LogLine) (frames cpus steps free : ℕ) (left : List IllegalStep) (s : CoreState)
-    → Checked (Some s) count lines steps free left → ¬ MayBegin (lines ++ kinds.Zone frames cpus ∷ [])
-refuses_zone count lines frames cpus steps free left s checked begins =
-    second_zone (filter says_something (lines ++ kinds.Zone frames cpus ∷ [])) checked.log frames cpus
-    (filter_append lines (kinds.Zone frames cpus ∷ []) ∙ ap (λ (ls : List LogLine). ls ++ kinds.Zone frames cpus ∷ []) checked.order) begins
+pub refuses_zone : (count : ℕ) (lines : List LogLine) (zone : Zone) (steps free : ℕ) (left : List IllegalStep) (s : CoreState)
+    → Checked (Some s) count lines steps free left → ¬ MayBegin (lines ++ zone_line zone ∷ [])
+refuses_zone count lines zone steps free left s checked begins =
+    second_zone (filter says_something (lines ++ zone_line zone ∷ [])) checked.log zone
+    (filter_append lines (zone_line zone ∷ []) ∙ ap (λ (ls : List LogLine). ls ++ zone_line zone ∷ []) checked.order) begins
 
-some_lines : (log : WholeLog) (said : List LogLine) → said ≡ kinds.Zone log.frames log.cpus ∷ map line_of_entry log.run → said ≡ [] → ⊥
+some_lines : (log : WholeLog) (said : List LogLine) → said ≡ zone_line log.zone ∷ map line_of_entry log.run → said ≡ [] → ⊥
 some_lines log said order none = let same = sym order ∙ none in cc
 
-pub second_sizes : (checker : Option CoreState) (count : ℕ) (lines : List LogLine) (frames cpus steps free : ℕ) (left : List IllegalStep)
+pub second_sizes : (checker : Option CoreState) (count : ℕ) (lines : List LogLine) (zone : Zone) (steps free : ℕ) (left : List IllegalStep)
     → is_some checker ≡ true → Checked checker count lines steps free left
-    → ¬ MayBegin (lines ++ kinds.Zone frames cpus ∷ []) × IsMisplaced SizesAgain lines (kinds.Zone frames cpus)
-second_sizes None count lines frames cpus steps free left some checked = absurd (false≢true some)
-second_sizes (Some s) count lines frames cpus steps free left some checked = (
-  refuses_zone count lines frames cpus steps free left s checked,
+    → ¬ MayBegin (lines ++ zone_line zone ∷ []) × IsMisplaced SizesAgain lines (zone_line zone)
+second_sizes None count lines zone steps free left some checked = absurd (false≢true some)
+second_sizes (Some s) count lines zone steps free left some checked = (
+  refuses_zone count lines zone steps free left s checked,
   some_lines checked.log (filter says_something lines) checked.order,
 )
 
@@ -154,7 +154,7 @@ no_sizes (Some s) count lines steps free left none checked = absurd (false≢tru
 -- ---- a step
 
 first_step : (said : List LogLine) (step : Step) (answer : Answer) → said ≡ kinds.Step step answer ∷ []
-    → ((said ≡ []) ⊎ ((other : WholeLog) × (said ≡ kinds.Zone other.frames other.cpus ∷ map line_of_entry other.run))) → ⊥
+    → ((said ≡ []) ⊎ ((other : WholeLog) × (said ≡ zone_line other.zone ∷ map line_of_entry other.run))) → ⊥
 first_step said step answer e (inl none) = cc
 first_step said step answer e (inr other) = let same = sym e ∙ other.1 in cc
 
@@ -171,7 +171,7 @@ step_in_order : (lines : List LogLine) (log : WholeLog) (step : Step) (answer : 
     → SayInOrder (lines ++ kinds.Step step answer ∷ []) (log_more log step answer)
 step_in_order lines log step answer order =
     filter_append lines (kinds.Step step answer ∷ []) ∙ ap (λ (ls : List LogLine). ls ++ kinds.Step step answer ∷ []) order
-    ∙ ap (λ (ls : List LogLine). kinds.Zone log.frames log.cpus ∷ ls) (sym (map-append line_of_entry log.run ((step, answer) ∷ [])))
+    ∙ ap (λ (ls : List LogLine). zone_line log.zone ∷ ls) (sym (map-append line_of_entry log.run ((step, answer) ∷ [])))
 
 get_last : {X : Type 0} (xs : List X) (x : X) → slice_get (xs ++ x ∷ []) (length xs) ≡ Some x
 get_last [] x = refl
@@ -202,7 +202,7 @@ pub takes_step : (count : ℕ) (lines : List LogLine) (step : Step) (answer : An
     → Checked (Some t) (count + 1) (lines ++ kinds.Step step answer ∷ []) (steps + 1) later left
 takes_step count lines step answer s t steps free later left checked leads counted =
     let log = checked.log in
-    let zone = zone_in log in
+    let zone = log.zone in
     let made = checked.made in
     let all = one_more made step answer in
     let here : Allows (state_of zone made) step.seat step.action answer =
@@ -248,7 +248,7 @@ pub leaves_step : (count : ℕ) (lines : List LogLine) (step : Step) (answer exp
     (left ++ record { line = count + 1; step = steps + 1; expected = expected; reason = reason } ∷ [])
 leaves_step count lines step answer expected reason s t steps free left checked same denied allowed why =
     let log = checked.log in
-    let zone = zone_in log in
+    let zone = log.zone in
     let made = checked.made in
     let illegal : IllegalStep = record { line = count + 1; step = steps + 1; expected = expected; reason = reason } in
     let at : Reached = record { lines = count; steps = steps; state = state_of zone made } in
@@ -282,7 +282,7 @@ pub ends_illegally : (count : ℕ) (lines : List LogLine) (step : Step) (answer 
     → EndsIllegally (lines ++ kinds.Step step answer ∷ []) (steps + 1) expected reason
 ends_illegally count lines step answer expected reason s steps free left checked denied allowed why none =
     let log = checked.log in
-    let zone = zone_in log in
+    let zone = log.zone in
     let run = one_more log.run step answer in
     let long : length run ≡ length log.run + 1 = length-append log.run ((step, answer) ∷ []) in
     let counted = checked.steps_are in

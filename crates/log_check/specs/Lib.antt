@@ -13,6 +13,6 @@ pub use Rattle.log_check.specs.Taking.{HasTakenLines, LeadsTo, ReadsOrJudges, Ta
 pub use Rattle.log_check.specs.Texts.{due_text, step_place_text, verdict_text}
 pub use Rattle.log_check.specs.Verdicts.{BeginsWith, BreaksRules, IsBadLine, IsIllegalAt, IsLegalLog, IsLogVerdict, IsMisplaced, IsPromisedLog, IsWhy}
 pub use Rattle.log_check.specs.Verdicts.{LeavesOut, NamesLeftOut, Reached, at_start, begins_as_gzip, fault_of, is_marked, is_returned, is_wide}
-pub use Rattle.log_check.specs.Verdicts.{line_on, says_legal, step_on, zone_in}
+pub use Rattle.log_check.specs.Verdicts.{line_on, says_legal, step_on}
 pub use Rattle.log_check.specs.Reasons.{IsReason}
 pub use Rattle.log_check.specs.ReasonTexts.{reason_text}

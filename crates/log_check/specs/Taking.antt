@@ -20,12 +20,12 @@ use Rattle.log_check.specs.declared.progress.Taken.{Taken}
 use Rattle.log_check.specs.declared.progress.Taken.TheVariants.{GoesOn, NotLegal, Bad}
 use Rattle.log_check.specs.declared.reader.LogReader.{LogReader}
 use Rattle.log_check.specs.Ends.{free_count}
-use Rattle.log_check.specs.Verdicts.{IsLogVerdict, IsMisplaced, LeavesOut, at_start, most_named, zone_in}
+use Rattle.log_check.specs.Verdicts.{IsLogVerdict, IsMisplaced, LeavesOut, at_start, most_named}
 
 -- the sizes of a zone are in their ranges
 abbrev pub HasZoneInRange : LogLine → Type 0
 HasZoneInRange kinds.Skipped = ⊤
-HasZoneInRange (kinds.Zone frames cpus) = IsZone frames cpus
+HasZoneInRange (kinds.Zone frames cpus groups) = IsZone frames cpus groups
 HasZoneInRange (kinds.Step step answer) = ⊤
 
 -- These lines, so many, are a log of so many steps. The checker took those that are legal, and shows the state that
@@ -37,13 +37,13 @@ pub record LeadsTo (count : ℕ) (lines : List LogLine) (s : CoreState) (steps f
   pub order : SayInOrder lines log
   pub steps_are : steps ≡ length log.run
   pub made : Run
-  pub legal : IsLegalRun (zone_in log) made
-  pub state : state_shown s ≡ state_of (zone_in log) made
-  pub free_is : free ≡ free_count (zone_in log) made
-  pub leaves : LeavesOut (at_start (zone_in log)) lines left
-      (record { lines = count; steps = steps; state = state_of (zone_in log) made })
+  pub legal : IsLegalRun log.zone made
+  pub state : state_shown s ≡ state_of log.zone made
+  pub free_is : free ≡ free_count log.zone made
+  pub leaves : LeavesOut (at_start log.zone) lines left
+      (record { lines = count; steps = steps; state = state_of log.zone made })
   pub whole : left ≡ [] → made ≡ log.run
-  pub none : IsLegalRun (zone_in log) log.run → left ≡ []
+  pub none : IsLegalRun log.zone log.run → left ≡ []
 
 -- these lines, so many, are empty or comments
 pub record SayNothing (count : ℕ) (lines : List LogLine) (steps free : ℕ) (left : List IllegalStep) : Type 0 where
@@ -79,8 +79,8 @@ pub record EndsIllegally (lines : List LogLine) (steps : ℕ) (expected : Answer
   pub log : WholeLog
   pub order : SayInOrder lines log
   pub count : steps ≡ length log.run
-  pub first : IsFirstIllegal (zone_in log) log.run (steps - 1) expected
-  pub why : IsReason (state_of (zone_in log) (take (steps - 1) log.run)) first.step first.answer expected reason
+  pub first : IsFirstIllegal log.zone log.run (steps - 1) expected
+  pub why : IsReason (state_of log.zone (take (steps - 1) log.run)) first.step first.answer expected reason
 
 -- what is said of the line that comes next is true
 abbrev pub TakesLine : (count : ℕ) → List LogLine → List IllegalStep → LogLine → Progress → Taken → Type 0

@@ -21,15 +21,11 @@ use Rattle.log_check.specs.declared.verdict.LogVerdict.{LogVerdict}
 use Rattle.log_check.specs.declared.verdict.LogVerdict.TheVariants.{Legal, NotLegal, LeftOut, BadLine}
 use Rattle.log_check.specs.Ends.{IsEnd, free_count}
 
--- the zone of a log
-abbrev pub zone_in : WholeLog → Zone
-zone_in log = record { frames = log.frames; cpus = log.cpus }
-
 -- the text is that of a log with a legal run
 pub record IsLegalLog (text : List ℕ) : Type 0 where
   pub log : WholeLog
   pub is : IsLog text log
-  pub legal : IsLegalRun (zone_in log) log.run
+  pub legal : IsLegalRun log.zone log.run
 
 -- The text is that of a legal run of this many steps, and each beginning of it that leaves the lock free keeps the
 -- promise. The lock is free after this many steps, and the run leaves this at its end.
@@ -37,10 +33,10 @@ pub record IsPromisedLog (text : List ℕ) (steps free : ℕ) (end : LogEnd) : T
   pub log : WholeLog
   pub is : IsLog text log
   pub count : steps ≡ length log.run
-  pub free_is : free ≡ free_count (zone_in log) log.run
-  pub end_is : IsEnd (state_of (zone_in log) log.run) end
-  pub legal : IsLegalRun (zone_in log) log.run
-  pub promise : AlwaysKeepsPromise (zone_in log) log.run
+  pub free_is : free ≡ free_count log.zone log.run
+  pub end_is : IsEnd (state_of log.zone log.run) end
+  pub legal : IsLegalRun log.zone log.run
+  pub promise : AlwaysKeepsPromise log.zone log.run
 
 -- the first lines of the text, up to that of the step, are a log; its last step is its first whose answer isn't
 -- allowed, and `expected` is allowed there, for the reason
@@ -52,8 +48,8 @@ pub record BreaksRules (text : List ℕ) (illegal : IllegalStep) : Type 0 where
   pub is : IsLog front log
   pub line_is : illegal.line ≡ length is.texts
   pub step_is : illegal.step ≡ length log.run
-  pub first : IsFirstIllegal (zone_in log) log.run (illegal.step - 1) illegal.expected
-  pub why : IsReason (state_of (zone_in log) (take (illegal.step - 1) log.run)) first.step first.answer illegal.expected
+  pub first : IsFirstIllegal log.zone log.run (illegal.step - 1) illegal.expected
+  pub why : IsReason (state_of log.zone (take (illegal.step - 1) log.run)) first.step first.answer illegal.expected
       illegal.reason
 
 -- ---- all steps that aren't legal
@@ -107,10 +103,10 @@ pub record NamesLeftOut (text : List ℕ) (steps count : ℕ) (first : List Ille
   pub steps_are : steps ≡ length log.run
   pub left : List IllegalStep
   pub end : Reached
-  pub leaves : LeavesOut (at_start (zone_in log)) is.lines left end
+  pub leaves : LeavesOut (at_start log.zone) is.lines left end
   pub count_is : count ≡ length left
   pub first_are : first ≡ take most_named left
-  pub not_legal : ¬ IsLegalRun (zone_in log) log.run
+  pub not_legal : ¬ IsLegalRun log.zone log.run
 
 -- ---- a bad line
 
@@ -122,7 +118,7 @@ pub record BeginsWith (line text : List ℕ) : Type 0 where
 
 -- the line may not come after these lines, for this reason: one of them gave the sizes, or none did
 abbrev pub IsMisplaced : LineFault → List LogLine → LogLine → Type 0
-IsMisplaced SizesAgain lines (kinds.Zone frames cpus) = filter says_something lines ≢ []
+IsMisplaced SizesAgain lines (kinds.Zone frames cpus groups) = filter says_something lines ≢ []
 IsMisplaced StepFirst lines (kinds.Step step answer) = filter says_something lines ≡ []
 IsMisplaced fault lines line = ⊥
 

@@ -53,15 +53,25 @@ impl Progress {
     {
         match line {
             LogLine::Skipped => Ok(Taken::GoesOn),
-            LogLine::Zone { frames, cpus } => self.take_zone(alloc, *frames, *cpus),
+            LogLine::Zone {
+                frames,
+                cpus,
+                groups,
+            } => self.take_zone(alloc, *frames, *cpus, *groups),
             LogLine::Step { step, answer } => Ok(self.take_step(step, answer)),
         }
     }
 
-    fn take_zone(&mut self, alloc: Global, frames: u32, cpus: u32) -> Result<Taken, LogFault>
-        requires sizes { IsZone frames cpus }
+    fn take_zone(
+        &mut self,
+        alloc: Global,
+        frames: u32,
+        cpus: u32,
+        groups: u32,
+    ) -> Result<Taken, LogFault>
+        requires sizes { IsZone frames cpus groups }
         requires counts { CountsSteps self.old }
-        ensures taken { IfOk result (TakesAfter self.old (kinds.Zone frames cpus) self.new) }
+        ensures taken { IfOk result (TakesAfter self.old (kinds.Zone frames cpus groups) self.new) }
         ensures fault { IfErr result (λ fault. fault ≡ NoMemory) }
         ensures counts { CountsSteps self.new }
         ensures steps { self.new.steps ≡ self.old.steps }
@@ -75,7 +85,10 @@ impl Progress {
             batch: 1,
             high: 1,
             stock: 1,
-            choices: Choices::NONE,
+            choices: Choices {
+                groups,
+                ..Choices::NONE
+            },
         };
         match Checker::new(alloc, config) {
             Ok(checker) => {

@@ -5,9 +5,10 @@ use Rattle.std.proofs.lemmas.List.{append_cancel_right}
 use Rattle.std.proofs.lemmas.List.Splits.{slice_split_at}
 use Rattle.step_rules.specs.declared.step.Step.{Step}
 use Rattle.step_rules.specs.declared.step.Answer.{Answer}
+use Rattle.step_rules.specs.State.{Zone}
 use Rattle.log_lines.specs.declared.line.LogLine.{LogLine}
 use Rattle.log_lines.specs.declared.line.LogLine.TheVariants as kinds
-use Rattle.log_lines.specs.{IsLogLineText, AreLinesOf, IsLog, WholeLog, says_something}
+use Rattle.log_lines.specs.{IsLogLineText, AreLinesOf, IsLog, WholeLog, says_something, zone_line}
 use Rattle.log_lines.proofs.Lines.{same_line}
 
 -- a line with its line feed
@@ -57,17 +58,26 @@ same_run (x ∷ xs) (y ∷ ys) e =
     let tails : map line_of_entry xs ≡ map line_of_entry ys = cc in
     ap₂ (λ (l : Step × Answer) (ls : List (Step × Answer)). l ∷ ls) (same_entry x y heads) (same_run xs ys tails)
 
-whole : (f g c d : ℕ) (r s : List (Step × Answer)) → f ≡ g → c ≡ d → r ≡ s
-    → ◌≡◌ {A = WholeLog} (record { frames = f; cpus = c; run = r }) (record { frames = g; cpus = d; run = s })
-whole f g c d r s e h k = cc
+same_sizes : (f g c d m n : ℕ) → f ≡ g → c ≡ d → m ≡ n
+    → ◌≡◌ {A = Zone} (record { frames = f; cpus = c; groups = m }) (record { frames = g; cpus = d; groups = n })
+same_sizes f g c d m n e h k = cc
 
-same_parts : (one other : WholeLog)
-    → kinds.Zone one.frames one.cpus ∷ map line_of_entry one.run ≡ kinds.Zone other.frames other.cpus ∷ map line_of_entry other.run → one ≡ other
-same_parts one other e =
+pub same_zone : (one other : Zone) → zone_line one ≡ zone_line other → one ≡ other
+same_zone one other e =
     let frames : one.frames ≡ other.frames = cc in
     let cpus : one.cpus ≡ other.cpus = cc in
+    let groups : one.groups ≡ other.groups = cc in
+    same_sizes one.frames other.frames one.cpus other.cpus one.groups other.groups frames cpus groups
+
+whole : (one other : Zone) (r s : List (Step × Answer)) → one ≡ other → r ≡ s
+    → ◌≡◌ {A = WholeLog} (record { zone = one; run = r }) (record { zone = other; run = s })
+whole one other r s e h = cc
+
+same_parts : (one other : WholeLog) → zone_line one.zone ∷ map line_of_entry one.run ≡ zone_line other.zone ∷ map line_of_entry other.run → one ≡ other
+same_parts one other e =
+    let heads : zone_line one.zone ≡ zone_line other.zone = cc in
     let tails : map line_of_entry one.run ≡ map line_of_entry other.run = cc in
-    whole one.frames other.frames one.cpus other.cpus one.run other.run frames cpus (same_run one.run other.run tails)
+    whole one.zone other.zone one.run other.run (same_zone one.zone other.zone heads) (same_run one.run other.run tails)
 
 pub same_log : (text : List ℕ) (one other : WholeLog) → IsLog text one → IsLog text other → one ≡ other
 same_log text one other is_one is_other =

@@ -3,6 +3,7 @@ use Rattle.std.specs.Prelude.{◌≡◌, ◌≢◌, ◌⊎◌, ℕ, ◌+◌, Boo
 use Rattle.std.specs.List.{AllByRecursion, AllZip}
 use Rattle.step_rules.specs.declared.step.Step.{Step}
 use Rattle.step_rules.specs.declared.step.Answer.{Answer}
+use Rattle.step_rules.specs.State.{Zone}
 use Rattle.log_lines.specs.declared.line.LogLine.{LogLine}
 use Rattle.log_lines.specs.declared.line.LogLine.TheVariants as kinds
 use Rattle.log_lines.specs.Line.{IsLogLineText}
@@ -10,19 +11,21 @@ use Rattle.log_lines.specs.Line.{IsLogLineText}
 -- the line is neither empty nor a comment
 abbrev pub says_something : LogLine → Bool
 says_something kinds.Skipped = false
-says_something (kinds.Zone frames cpus) = true
+says_something (kinds.Zone frames cpus groups) = true
 says_something (kinds.Step step answer) = true
 
 -- the contents of a log: the sizes of the zone, and the steps with their answers
 pub record WholeLog : Type 0 where
-  pub frames : ℕ
-  pub cpus : ℕ
+  pub zone : Zone
   pub run : List (Step × Answer)
+
+-- the line with the sizes of the zone
+abbrev pub zone_line : Zone → LogLine
+zone_line zone = kinds.Zone zone.frames zone.cpus zone.groups
 
 -- the lines are the zone's sizes, then the steps, with empty lines and comments anywhere
 abbrev pub SayInOrder : List LogLine → WholeLog → Type 0
-SayInOrder lines log = filter says_something lines
-    ≡ kinds.Zone log.frames log.cpus ∷ map (λ e. kinds.Step e.0 e.1) log.run
+SayInOrder lines log = filter says_something lines ≡ zone_line log.zone ∷ map (λ e. kinds.Step e.0 e.1) log.run
 
 -- the lines of a text, each of which ends with a line feed
 pub record AreLinesOf (text : List ℕ) (lines : List (List ℕ)) : Type 0 where

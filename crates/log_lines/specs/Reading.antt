@@ -1,11 +1,11 @@
 -- How a line is parsed: functions on the list of its words.
-use Rattle.std.specs.Prelude.{◌≡◌, ℕ, ◌^◌, ◌&&◌, ◌==◌, nat_le, nat_lt, Bool, true, false, List, [], ◌∷◌, Option, Some}
+use Rattle.std.specs.Prelude.{◌≡◌, ℕ, ◌^◌, ◌&&◌, ◌==◌, not, nat_le, nat_lt, Bool, true, false, List, [], ◌∷◌, Option, Some}
 use Rattle.std.specs.Prelude.{None, bytes_eq, codes, decimal, length, if◌then◌else◌}
 use Rattle.std.specs.Borrow.{Bor}
 use Rattle.std.specs.List.{slice_split}
 use Rattle.std.specs.Str.Parse.{digits_value}
 use Rattle.group_tree.specs.Bounds.{most_groups}
-use Rattle.zone_blocks.specs.Config.{most_cpus, most_frames}
+use Rattle.zone_blocks.specs.Config.{most_cpus, most_frames, no_choices}
 use Rattle.step_rules.specs.declared.step.Step.{Step}
 use Rattle.step_rules.specs.declared.step.Action.{Action}
 use Rattle.step_rules.specs.declared.step.Action.TheVariants as action
@@ -147,9 +147,9 @@ answer_at words = do
   name ← answer_named word.0
   results_at name word.1
 
--- the words after `>`
-abbrev pub after_arrow : List (List ℕ) → Option (List (List ℕ))
-after_arrow words = front_word words >>= λ word. only_if (bytes_eq word.0 (codes ">")) word.1
+-- the words after this one
+abbrev pub after_word : List ℕ → List (List ℕ) → Option (List (List ℕ))
+after_word text words = front_word words >>= λ word. only_if (bytes_eq word.0 text) word.1
 
 -- whether no word is left
 abbrev pub is_end : List (List ℕ) → Bool
@@ -161,18 +161,31 @@ unfoldable pub parsed_entry : List (List ℕ) → Option (Step × Answer)
 parsed_entry words = do
   seat ← u32_at words
   act ← action_at seat.1
-  rest ← after_arrow act.1
+  rest ← after_word (codes ">") act.1
   got ← answer_at rest
   reached ← only_if (is_end got.1) got.0
   Some (record { seat = seat.0; action = act.0 }, reached)
 
+-- `groups` and a number of groups, from all of the words
+unfoldable pub groups_named : List (List ℕ) → Option ℕ
+groups_named words = do
+  rest ← after_word (codes "groups") words
+  n ← u32_at rest
+  last ← only_if (is_end n.1 && not (n.0 == no_choices.groups)) n.0
+  only_if (nat_le 1 last && nat_le last most_groups) last
+
+-- how many groups the zone has room for, from all of the words after its CPUs
+unfoldable pub parsed_groups : List (List ℕ) → Option ℕ
+parsed_groups words = if is_end words then Some no_choices.groups else groups_named words
+
 -- the sizes of a zone, from all of the words
-unfoldable pub parsed_zone : List (List ℕ) → Option (ℕ × ℕ)
+unfoldable pub parsed_zone : List (List ℕ) → Option LogLine
 parsed_zone words = do
   frames ← u32_at words
   cpus ← u32_at frames.1
-  last ← only_if (is_end cpus.1) cpus.0
-  only_if (nat_le 1 frames.0 && nat_le frames.0 most_frames && nat_le 1 last && nat_le last most_cpus) (frames.0, last)
+  groups ← parsed_groups cpus.1
+  only_if (nat_le 1 frames.0 && nat_le frames.0 most_frames && nat_le 1 cpus.0 && nat_le cpus.0 most_cpus)
+      (kinds.Zone frames.0 cpus.0 groups)
 
 -- the line of a text
 unfoldable pub line_of : List ℕ → Option LogLine
@@ -180,5 +193,5 @@ line_of text =
     if nat_lt longest_log_line (length text) then None
     else (if is_log_comment text then Some kinds.Skipped
     else (front_word (words_of text) >>= λ word.
-    if bytes_eq word.0 (codes "zone") then (parsed_zone word.1 >>= λ z. Some (kinds.Zone z.0 z.1))
+    if bytes_eq word.0 (codes "zone") then parsed_zone word.1
     else (parsed_entry (words_of text) >>= λ e. Some (kinds.Step e.0 e.1))))

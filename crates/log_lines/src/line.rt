@@ -7,8 +7,9 @@ use step_rules::step::{Answer, Step};
 pub enum LogLine {
     /// An empty line, or a comment.
     Skipped,
-    /// The sizes of the zone, given once, before the first step.
-    Zone { frames: u32, cpus: u32 },
+    /// The sizes of the zone, given once, before the first step: its frames and CPUs, and how many groups it has room
+    /// for.
+    Zone { frames: u32, cpus: u32, groups: u32 },
     /// A step and its answer.
     Step { step: Step, answer: Answer },
 }

@@ -5,13 +5,14 @@ ghost use Rattle.log_lines.specs.declared.line.LogLine.{LogLine};
 ghost use Rattle.log_lines.specs.Line.{IsLogLineText, is_log_comment};
 ghost use Rattle.log_lines.specs.Log.{IsFirstBadLogLine, IsLog, WholeLog};
 ghost use Rattle.log_lines.specs.Reading.{ParsesTo, action_at, answer_at, arguments_at, parsed_entry, line_of};
-ghost use Rattle.log_lines.specs.Reading.{results_at, parsed_zone};
+ghost use Rattle.log_lines.specs.Reading.{results_at, parsed_groups, parsed_zone};
 
 use crate::line::LogLine;
 use crate::name::{ActionName, AnswerName, action_named, answer_named};
 use crate::word::Words;
 use step_rules::step::{Action, Answer, Step};
 use zone_blocks::block::Block;
+use zone_blocks::choices::Choices;
 use zone_blocks::config::Config;
 
 /// The most bytes of a line, without its line feed.
@@ -54,8 +55,7 @@ fn line_of(text: &[u8]) -> Option<LogLine>
     }
     let mut words = Words::of(text);
     if words.word()? == b"zone".as_slice() {
-        let (frames, cpus) = parse_zone(words)?;
-        return Some(LogLine::Zone { frames, cpus });
+        return parse_zone(words);
     }
     let (step, answer) = parse_entry(Words::of(text))?;
     Some(LogLine::Step { step, answer })
@@ -71,16 +71,41 @@ fn is_skipped(text: &[u8]) -> bool
 }
 
 #[tactic(auto, unfolding(crate::specs::Reading::parsed_zone))]
-fn parse_zone(mut words: Words<'_>) -> Option<(u32, u32)>
+fn parse_zone(mut words: Words<'_>) -> Option<LogLine>
     ensures { result ≡ parsed_zone words.entry }
 {
     let frames = words.number()?;
     let cpus = words.number()?;
-    if !words.is_empty() {
+    let groups = parse_groups(words)?;
+    if 1 <= frames && frames <= Config::MAX_FRAMES && 1 <= cpus && cpus <= Config::MAX_CPUS {
+        Some(LogLine::Zone {
+            frames,
+            cpus,
+            groups,
+        })
+    } else {
+        None
+    }
+}
+
+// How many groups the zone has room for, by the words after its CPUs. The number of a boot that chooses none isn't
+// written.
+#[tactic(auto, unfolding(crate::specs::Reading::parsed_groups))]
+fn parse_groups(mut words: Words<'_>) -> Option<u32>
+    ensures { result ≡ parsed_groups words.entry }
+{
+    if words.is_empty() {
+        return Some(Choices::NONE.groups);
+    }
+    if words.word()? != b"groups".as_slice() {
         return None;
     }
-    if 1 <= frames && frames <= Config::MAX_FRAMES && 1 <= cpus && cpus <= Config::MAX_CPUS {
-        Some((frames, cpus))
+    let groups = words.number()?;
+    if !words.is_empty() || groups == Choices::NONE.groups {
+        return None;
+    }
+    if 1 <= groups && groups <= Choices::MAX_GROUPS {
+        Some(groups)
     } else {
         None
     }

@@ -1,7 +1,7 @@
 //! Writes a line.
 
 ghost use Rattle.std.specs.Prelude.{◌≡◌, ℕ, [], ◌∷◌, ◌++◌, IfOk, decimal};
-ghost use Rattle.log_lines.specs.Line.{entry_text, zone_text};
+ghost use Rattle.log_lines.specs.Line.{entry_text, groups_words, zone_text};
 ghost use Rattle.log_lines.specs.Words.{Fixed, action_words, answer_words, note_name, spaced};
 ghost use Rattle.log_lines.specs.Words as words;
 ghost use Rattle.step_rules.specs.declared.step.Action.TheVariants.{SetMax};
@@ -10,14 +10,31 @@ use group_tree::group::GroupId;
 use itoa::Buffer;
 use std::alloc::AllocError;
 use step_rules::step::{Action, Answer, NoteKey, Step};
+use zone_blocks::choices::Choices;
 
 /// Appends the sizes of the zone, without a line feed. It fails only if memory runs out.
-pub fn write_zone(frames: u32, cpus: u32, text: &mut Vec<u8>) -> Result<(), AllocError>
-    ensures { IfOk result (λ _. text.new.items ≡ text.old.items ++ zone_text frames cpus) }
+pub fn write_zone(
+    frames: u32,
+    cpus: u32,
+    groups: u32,
+    text: &mut Vec<u8>,
+) -> Result<(), AllocError>
+    ensures { IfOk result (λ _. text.new.items ≡ text.old.items ++ zone_text frames cpus groups) }
 {
     text.extend_from_slice(b"zone")?;
     push_number(frames, text)?;
-    push_number(cpus, text)
+    push_number(cpus, text)?;
+    push_groups(groups, text)
+}
+
+// Appends how many groups the zone has room for, unless it is the number of a boot that chooses none.
+fn push_groups(groups: u32, text: &mut Vec<u8>) -> Result<(), AllocError>
+    ensures { IfOk result (λ _. text.new.items ≡ text.old.items ++ spaced (groups_words groups)) }
+{
+    if groups == Choices::NONE.groups {
+        return Ok(());
+    }
+    push_of_number(b"groups", groups, text)
 }
 
 /// Appends a step and its answer, without a line feed. It fails only if memory runs out.

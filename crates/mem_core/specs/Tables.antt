@@ -1,5 +1,5 @@
 -- What the tables of phases and of references keep beside their lists.
-use Rattle.std.specs.Prelude.{◌≡◌, ℕ, ◌≤◌, List, length, vec_len}
+use Rattle.std.specs.Prelude.{◌+◌, ◌≡◌, ℕ, ◌≤◌, List, length, vec_len}
 use Rattle.std.specs.List.{slice_index_or}
 use Rattle.group_tree.specs.Bounds.{most_groups}
 use Rattle.zone_blocks.specs.Config.{most_frames}

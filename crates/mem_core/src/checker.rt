@@ -162,7 +162,7 @@ fn take(
 
 impl Checker {
     /// A checker of logs that begin with all frames free, the root alone and the lock free. It reserves here all room
-    /// that its steps need. Of the sizes only the frames and the CPUs matter.
+    /// that its steps need. Of the sizes only the frames, the CPUs and the room for groups matter.
     pub fn new(alloc: Global, config: Config) -> Result<Checker, AllocError>
         requires { IsValidConfig config }
         ensures state { IfOk result (λ checker. state_shown checker ≡ at_boot (zone_of_config config)) }

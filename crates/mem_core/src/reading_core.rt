@@ -46,7 +46,7 @@ impl Model for Core {
 
 impl Core {
     /// A core with all frames free, the root alone, the lock free and no step made. It reserves here all room that
-    /// its steps need. Of the sizes only the frames and the CPUs matter.
+    /// its steps need. Of the sizes only the frames, the CPUs and the room for groups matter.
     pub fn new(alloc: Global, config: Config) -> Result<Core, AllocError>
         requires { IsValidConfig config }
         ensures zone { IfOk result (λ core. core.zone ≡ zone_of_config config) }

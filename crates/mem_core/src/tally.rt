@@ -1,6 +1,6 @@
 //! The sizes of classes of frames, one of which changes as a frame moves to another class.
 
-ghost use Rattle.std.specs.Prelude.{◌≡◌, ◌<◌, ◌≤◌, ℕ, IfOk, replicate, slice_set, vec_len};
+ghost use Rattle.std.specs.Prelude.{◌≡◌, ◌+◌, ◌<◌, ◌≤◌, ℕ, IfOk, replicate, slice_set, vec_len};
 ghost use Rattle.std.specs.List.{slice_index_or};
 ghost use Rattle.group_tree.specs.Bounds.{most_groups};
 ghost use Rattle.step_rules.specs.Phases.{keeper_of};

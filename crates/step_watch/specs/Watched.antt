@@ -30,7 +30,7 @@ has_whole_log watch = watch.is_on && is_some watch.log
 
 -- the state of the rules that a checker has reached; without a checker, that of a zone without frames and CPUs
 abbrev pub state_reached : Option CoreState → State
-state_reached None = at_boot (record { frames = 0; cpus = 0 })
+state_reached None = at_boot (record { frames = 0; cpus = 0; groups = 0 })
 state_reached (Some core) = state_shown core
 
 -- the state of the rules that the watch saw its steps lead to

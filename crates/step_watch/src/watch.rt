@@ -90,7 +90,7 @@ impl Watch {
     }
 
     /// A watch that checks the steps of a boot of these sizes, from its first step on. It reserves here all room that
-    /// it needs. Of the sizes only the frames and the CPUs matter.
+    /// it needs. Of the sizes only the frames, the CPUs and the room for groups matter.
     pub fn new(alloc: Global, config: Config) -> Result<Watch, AllocError>
         requires { IsValidConfig config }
         ensures { IfOk result (IsNewWatch (zone_of_config config)) }
