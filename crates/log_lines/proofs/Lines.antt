@@ -124,7 +124,7 @@ groups_fit : (groups : ℕ) → groups ≤ most_groups → AllFit (groups_words 
 groups_fit groups most =
     elim (eqb_tells groups no_choices.groups) [
       | inl same ↦ rw same.0 tt
-      | inr other ↦ rw other.0 (refl, narrow_groups groups most, tt)
+      | inr other ↦ rw other.0 (refl, (narrow_groups groups most, tt))
     ]
 
 -- what is read after `zone` is the words of these sizes, which are in their ranges

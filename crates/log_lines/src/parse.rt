@@ -90,7 +90,7 @@ fn parse_zone(mut words: Words<'_>) -> Option<LogLine>
 
 // How many groups the zone has room for, by the words after its CPUs. The number of a boot that chooses none isn't
 // written.
-#[tactic(auto, unfolding(crate::specs::Reading::parsed_groups))]
+#[tactic(auto, unfolding(crate::specs::Reading::parsed_groups, crate::specs::Reading::groups_named))]
 fn parse_groups(mut words: Words<'_>) -> Option<u32>
     ensures { result ≡ parsed_groups words.entry }
 {
