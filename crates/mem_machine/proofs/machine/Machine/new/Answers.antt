@@ -1,4 +1,5 @@
-use Rattle.std.proofs.Common.{◌≡◌, refl, rules}
+use Rattle.std.proofs.Common.{◌≡◌, ◌∙◌, ap, refl, rules}
+use Rattle.mem_machine.specs.Machines.{boot_ledger}
 use Rattle.mem_machine.proofs.Clean.{clean_first}
 use Rattle.mem_machine.proofs.First.{first_is, owners_first, rests_first, starts, sums_first}
 use Rattle.mem_machine.proofs.machine.Machine.new.Goals as goal
@@ -7,7 +8,8 @@ pub invariant_of-result : goal.invariant_of-result
 invariant_of-result g c =
     let t = g.N.BootName.table in
     let sized : c.frames.result ≡ g.N.BootName.table.frames = search rules in
-    let first = first_is t _ c.frames.result sized c.in-Ok.ensures.frame_states c.in-Ok.ensures.charges c.in-Ok.ensures.nowhere c.in-Ok.ensures.killed refl c.in-Ok.ensures.notes c.is_proportional.ensures c.requires.past in
+    let room : c.choices-groups.result.groups ≡ g.N.BootName.table.choices.groups = search rules in
+    let first = first_is t _ c.frames.result sized c.in-Ok.ensures.frame_states (c.in-Ok.ensures.charges ∙ ap boot_ledger room) c.in-Ok.ensures.nowhere c.in-Ok.ensures.killed refl c.in-Ok.ensures.notes c.is_proportional.ensures c.requires.past in
     let kept = starts t _ first _ c.frames.result sized c.in-Ok.ensures.frames c.in-Ok.ensures.lists c.in-Ok.ensures.free c.in-Ok.ensures.areas in
     record {
       consistent = kept.0;
@@ -20,7 +22,8 @@ invariant_of-result g c =
 pub returns-clause-first : goal.returns-clause-first
 returns-clause-first g c =
     let sized : c.frames.result ≡ g.N.BootName.table.frames = search rules in
-    first_is g.N.BootName.table _ c.frames.result sized c.in-Ok.ensures.frame_states c.in-Ok.ensures.charges c.in-Ok.ensures.nowhere c.in-Ok.ensures.killed refl c.in-Ok.ensures.notes
+    let room : c.choices-groups.result.groups ≡ g.N.BootName.table.choices.groups = search rules in
+    first_is g.N.BootName.table _ c.frames.result sized c.in-Ok.ensures.frame_states (c.in-Ok.ensures.charges ∙ ap boot_ledger room) c.in-Ok.ensures.nowhere c.in-Ok.ensures.killed refl c.in-Ok.ensures.notes
     c.is_proportional.ensures c.requires.past
 
 pub returns-clause-rests : goal.returns-clause-rests
