@@ -35,7 +35,7 @@ take_file() {
     for ((at = 1; at < ${#words[@]}; at++)); do
         word=${words[at]}
         case $word in
-            --frames | --cpus | --batch | --high | --stock | --reclaim-batch) at=$((at + 1)) ;;
+            --frames | --cpus | --batch | --high | --stock | --reclaim-batch | --groups) at=$((at + 1)) ;;
             -) names+=("$at") ;;
             -*) ;;
             *) names+=("$at") ;;
@@ -88,7 +88,7 @@ tell_reason() {
     fi
     while (($# > 1)); do
         shift
-        for word in --frames --cpus --batch --high --stock --reclaim-batch; do
+        for word in --frames --cpus --batch --high --stock --reclaim-batch --groups; do
             [[ $1 == "$word" ]] && sizes+=("$1" "${2-}")
             [[ $1 == "$word="* ]] && sizes+=("$1")
         done

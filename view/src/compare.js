@@ -14,7 +14,7 @@ import { CURVES } from "./run.js";
 import { positionOf } from "./script.js";
 import { measure } from "./start.js";
 import { curvesOf, isThereAt } from "./timeline.js";
-import { grouped, plural } from "./words.js";
+import { grouped, plural, zoneWords } from "./words.js";
 
 /** Opens a second run beside the first. Its groups look like those of the same path. */
 export async function openSecond(sent) {
@@ -39,7 +39,6 @@ async function showSecond(name, log, found) {
   measure();
   draw();
 }
-const zoneText = run => `${plural(run.frames, "frame")}, ${plural(run.cpus, "CPU")}`;
 /** Makes the second run the first one, at the same line. */
 export async function swapRuns() {
   const { run, name, log, runVerdict, other, otherName, otherLog, otherVerdict, script } = page,
@@ -92,8 +91,8 @@ function effectOf(run, other, differs, otherLives) {
  */
 function* warningsOf(run, other) {
   const warnings = [];
-  if (run.frames !== other.frames || run.cpus !== other.cpus)
-    warnings.push(`The zones differ: ${zoneText(run)} ≠ ${zoneText(other)}`);
+  const [zone, second] = [run, other].map(each => zoneWords(each).join(", "));
+  if (zone !== second) warnings.push(`The zones differ: ${zone} ≠ ${second}`);
   if (!run.sizes !== !other.sizes)
     return [...warnings, "Only one of the logs has commands: so lines of steps stand beside lines of a script."];
   const said = text => text === undefined ? "missing" : `\`${text}\``,

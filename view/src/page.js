@@ -17,7 +17,7 @@ import { measure } from "./start.js";
 import { MOST_FRESH } from "./state.js";
 import { drawTimeline, resizeTime } from "./time.js";
 import { MOST_VERDICTS, drawVerdict, verdictText } from "./verdict.js";
-import { plural } from "./words.js";
+import { plural, zoneWords } from "./words.js";
 import { logOf } from "./worker.js";
 
 /** @type {(id: string) => any} An element of the page, of whatever kind. */
@@ -142,7 +142,7 @@ export async function begin(name, log, run) {
   byId("frame-number").value = "";
   byId("name").textContent = name;
   document.title = `${name} – memcg log`;
-  byId("sizes").textContent = `${plural(run.frames, "frame")} · ${plural(run.cpus, "CPU")}` +
+  byId("sizes").textContent = zoneWords(run).join(" · ") +
     (run.sizes ? ` · ${sizesWords(run.sizes)}` : " · steps without commands");
   byId("groups-table").classList.toggle("large", run.frames > 9999);
   for (const kind of ["low", "high"])

@@ -2,7 +2,7 @@
 
 import { reasonOf } from "./reasons.js";
 import {
-  ANSWERS, ANSWER_CODES, MOST_CPUS, MOST_FRAMES, MOST_GROUPS, MOST_LINE, MOST_NUMBER, MOST_ORDER, State
+  ANSWERS, ANSWER_CODES, DEFAULT_GROUPS, MOST_CPUS, MOST_FRAMES, MOST_GROUPS, MOST_LINE, MOST_NUMBER, MOST_ORDER, State
 } from "./state.js";
 import { ACTIONS, ACTION_CODES, answerTo } from "./steps.js";
 
@@ -24,7 +24,7 @@ class Reader {
   why = "";
   path = "";
   isSized = false;
-  at = 0; line = 0; start = 0; end = 0; to = 0; from = 0; until = 0; value = 0; frames = 0; cpus = 0;
+  at = 0; line = 0; start = 0; end = 0; to = 0; from = 0; until = 0; value = 0; frames = 0; cpus = 0; groups = 0;
   seat = 0; action = 0; a = 0; b = 0; c = 0; answer = 0; n = 0; m = 0;
   /** @param {string} log */
   constructor(log) {
@@ -119,12 +119,18 @@ class Reader {
     return true;
   }
   zone() {
-    const { frames, cpus } = this,
-      isZone = this.name() === "zone" && this.parts("nn", ["frames", "cpus"]) && this.to === this.end &&
+    const { frames, cpus, groups } = this,
+      isZone = this.name() === "zone" && this.parts("nn", ["frames", "cpus"]) && this.mostGroups() &&
       this.frames >= 1 && this.frames <= MOST_FRAMES && this.cpus >= 1 && this.cpus <= MOST_CPUS;
-    if (this.isSized) Object.assign(this, { frames, cpus });
+    if (this.isSized) Object.assign(this, { frames, cpus, groups });
     this.isSized ||= isZone;
     return isZone;
+  }
+  /** How many groups may exist at once: the rest of the sizes, which is left out of the default. */
+  mostGroups() {
+    this.groups = DEFAULT_GROUPS;
+    return this.to === this.end || this.name() === "groups" && this.parts("n", ["groups"]) && this.to === this.end &&
+      this.groups >= 1 && this.groups <= MOST_GROUPS && this.groups !== DEFAULT_GROUPS;
   }
   step() {
     if (!this.number(MOST_NUMBER)) return false;
@@ -153,7 +159,7 @@ export function* run(log, seen = {}) {
     let fault = null;
     if (kind === "bad") return verdict(2, `bad line ${reader.line}: ${reader.why}`);
     if (kind === "zone") {
-      state = new State(reader.frames, reader.cpus);
+      state = new State(reader.frames, reader.cpus, reader.groups);
       seen.zone?.(state, reader);
     } else if (kind === "comment") fault = seen.comment?.();
     else if (kind === "end") fault = seen.end?.();

@@ -41,6 +41,7 @@ export class Run {
     const F = state.frames;
     this.frames = F;
     this.cpus = state.cpus;
+    this.mostGroups = state.mostGroups;
     this.log = log;
     this.LIST = F;
     this.SEQUENCE = 2 * F;

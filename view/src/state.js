@@ -4,6 +4,7 @@
 
 export const PAGE = 4096, MOST_LINE = 1024, MOST_NUMBER = 2 ** 32 - 1, MOST_FRAMES = 1048576, MOST_CPUS = 64;
 export const MOST_PINS = 256, MOST_REFERENCES = 255, MOST_FRESH = 32, MOST_GROUPS = 64, MOST_DEPTH = 8, MOST_ORDER = 10;
+export const DEFAULT_GROUPS = 64; // how many groups may exist at once, if the sizes don't say
 
 // Answers. Their numbers: n has 32 bits, w 64, g is a group, k an order.
 export const ANSWERS = [["illegal", ""], ["done", ""], ["held", ""], ["full", ""], ["zero", ""], ["left", "n"],
@@ -40,9 +41,10 @@ export const ROW = ["number", "max", "current", "peak", "max_events", "oom_event
 export class State {
   holder = 0; visit = 0; transit = 0; pending = 0; lent = 0; births = 0; effort = 0;
   puts = 0; freezes = 0; drops = 0; returns = 0; n = 0; m = 0;
-  constructor(frames, cpus) {
+  constructor(frames, cpus, mostGroups) {
     this.frames = frames;
     this.cpus = cpus;
+    this.mostGroups = mostGroups;
     this.place = new Uint16Array(frames);
     this.stage = new Uint8Array(frames);
     this.live = new Uint8Array(frames); // references in all
@@ -265,7 +267,7 @@ export class State {
       names.some(name => !/^[!-.0-~]{1,255}$/.test(name) || /^\.\.?$/.test(name))) return 3;
     if (names.length > MOST_DEPTH) return 5;
     if (this.numbers.has(path)) return 2;
-    return this.numbers.has(parentPath(path)) ? this.numbers.size === MOST_GROUPS ? 4 : 0 : 1;
+    return this.numbers.has(parentPath(path)) ? this.numbers.size === this.mostGroups ? 4 : 0 : 1;
   }
   isBelow(group, top) {
     while (group >= 0 && group !== top) group = this.groups[group].parent;

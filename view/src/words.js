@@ -3,6 +3,7 @@
 import { memoryOf, memoryText } from "./amounts.js";
 import { REFUSALS, SETTINGS, pagesOf, wordsOf } from "./commands.js";
 import { page } from "./page.js";
+import { DEFAULT_GROUPS } from "./state.js";
 
 const THOUSANDS = new Intl.NumberFormat("en"); // one for all: to make one takes longer than to draw a row
 export const grouped = number => THOUSANDS.format(number);
@@ -11,6 +12,9 @@ export const framesText = (first, last) => first === last ? `frame ${first}` :
   `frames ${first} ${last === first + 1 ? "and" : "to"} ${last}`;
 export const listed = words => words.length < 2 ? words.join("") :
   `${words.slice(0, -1).join(", ")} and ${words.at(-1)}`;
+/** The frames and CPUs of a run's zone, and how many groups it has at most, if that isn't the default. */
+export const zoneWords = ({ frames, cpus, mostGroups }) => [plural(frames, "frame"), plural(cpus, "CPU"),
+  ...mostGroups === DEFAULT_GROUPS ? [] : [`at most ${plural(mostGroups, "group")}`]];
 export const spaced = text => text && ` ${text}`;
 export const capital = text => text.charAt(0).toUpperCase() + text.slice(1);
 
