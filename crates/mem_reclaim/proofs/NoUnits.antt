@@ -1,7 +1,7 @@
 -- The turn of a group that keeps no unit. Serves `take_turn`.
-use Rattle.std.proofs.Common.{◌≡◌, ◌≢◌, ℕ, ◌<◌, ◌==◌, ◌&&◌, Bool, true, false, Some, None, Option, List, [], ◌∷◌, length}
+use Rattle.std.proofs.Common.{◌≡◌, ◌≢◌, ℕ, ◌-◌, ◌<◌, ◌==◌, ◌&&◌, Bool, true, false, Some, None, Option, List, [], ◌∷◌, length}
 use Rattle.std.proofs.Common.{refl, sym, ap, ◌∙◌, subst, inl, inr, arith, nat_lt, suc, cond}
-use Rattle.std.proofs.lemmas.Bool.{and_parts, cases_eq, cond-false, eqb-true, false≢true, ne_eqb}
+use Rattle.std.proofs.lemmas.Bool.{and_parts, cases_eq, cond-false, eqb-true, false≢true, le-ltb, ne_eqb}
 use Rattle.std.proofs.lemmas.List.{append-nil}
 use Rattle.group_tree.specs.Bounds.{most_groups}
 use Rattle.group_tree.specs.Groups.{AreGroups, in_subtree}
@@ -107,7 +107,7 @@ module _ (t : KnownTable) (g : ℕ) (m : KnownMachine) (ok : IsConsistent t m) (
       let of_low = effective low_key m.ledger target g in
       let usage = current_of m.ledger g in
       let wanted = turn_want want usage (spared_by pass of_min of_low) in
-      let unnoted : notes_spared pass (clean_pages m g) want wanted ≡ false = off (is_first pass) (nat_lt wanted want) _ (ap (nat_lt wanted) none_clean) in
+      let unnoted : notes_spared pass (clean_pages m g) want wanted ≡ false = off (is_first pass) (nat_lt wanted want) _ (le-ltb wanted (clean_pages m g) (omega (arith, none_clean))) in
       let begins : m ≡ with_detail_if (notes_spared pass (clean_pages m g) want wanted) m (note.Spared g usage of_min of_low) =
       ap (λ (b : Bool). with_detail_if b m (note.Spared g usage of_min of_low)) (sym unnoted) in
       elim (cases_eq wanted 0) [
