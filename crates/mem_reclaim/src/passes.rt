@@ -212,11 +212,11 @@ fn note_spared<N: BootName>(
 fn keeps_no_unit<N: BootName>(machine: &Machine<N>, group: GroupId) -> bool
     ensures { result ≡ keeps_no_unit machine.now group }
 {
-    machine.list_len(group, LruList::Inactive) == 0
-        && machine.list_len(group, LruList::Active) == 0
+    machine.list_len(group, LruList::Inactive) == 0 && machine.list_len(group, LruList::Active) == 0
 }
 
-// The turn of a group in a pass. A group that keeps no unit has nothing to give, whatever protects it. Otherwise what protects the group is found now, since earlier turns changed what its parents use.
+// The turn of a group in a pass. A group that keeps no unit has nothing to give, whatever protects it. Otherwise what
+// protects the group is found now, since earlier turns changed what its parents use.
 fn take_turn<N: BootName>(
     machine: &mut Machine<N>,
     tables: &Tables<N>,
