@@ -5,6 +5,7 @@ pub mod Grown
 pub mod Meeting
 pub mod Scanning
 pub mod Passing
+pub mod NoUnits
 pub mod Rounding
 pub mod Choosing
 pub mod LettingGo

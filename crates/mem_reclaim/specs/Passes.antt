@@ -1,6 +1,6 @@
 -- Reclaim in passes over the groups of a subtree, by ascending number.
 use Rattle.std.specs.Prelude.{◌≡◌, ℕ, ◌-◌, ◌≤◌, ◌==◌, ◌&&◌, ◌⊎◌, Bool, true, false, not, min, max, nat_lt, if◌then◌else◌}
-use Rattle.std.specs.Prelude.{List, [], ◌∷◌, ◌++◌, filter}
+use Rattle.std.specs.Prelude.{List, [], ◌∷◌, ◌++◌, filter, length}
 use Rattle.std.specs.List.{range_with_len}
 use Rattle.group_tree.specs.{most_groups, in_subtree}
 use Rattle.group_tree.specs.declared.event.EventKey.TheVariants as event
@@ -13,7 +13,7 @@ use Rattle.group_protection.specs.Protections.{effective, low_key, min_key}
 use Rattle.lru_lists.specs.declared.record.LruList.TheVariants.{Inactive, Active}
 use Rattle.step_rules.specs.declared.step.NoteKey.TheVariants as key
 use Rattle.step_rules.specs.After.{Run}
-use Rattle.mem_machine.specs.Machines.{KnownMachine, with_detail, with_run}
+use Rattle.mem_machine.specs.Machines.{KnownMachine, active_in, inactive_in, with_detail, with_run}
 use Rattle.mem_machine.specs.Clean.{clean_pages}
 use Rattle.mem_machine.specs.Noted.{KnownRun}
 use Rattle.mem_machine.specs.Ageing.{AgesGroup}
@@ -87,6 +87,10 @@ notes_spared pass clean want wanted = is_first pass && nat_lt wanted want && nat
 -- the machine with one detail more, if it is to be noted
 abbrev pub with_detail_if : Bool → KnownMachine → Note → KnownMachine
 with_detail_if is_noted machine note = if is_noted then with_detail machine note else machine
+
+-- the group keeps no unit
+abbrev pub keeps_no_unit : KnownMachine → (group : ℕ) → Bool
+keeps_no_unit machine group = length (inactive_in machine group) == 0 && length (active_in machine group) == 0
 
 -- `does want`, unless no page is wanted
 abbrev pub IfWanted : (ℕ → Reclaiming) → ℕ → Reclaiming

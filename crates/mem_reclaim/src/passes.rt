@@ -8,7 +8,7 @@ ghost use Rattle.boot_words.specs.Pasts.{IsHeld};
 ghost use Rattle.mem_machine.specs.Clean.{clean_pages};
 ghost use Rattle.mem_reclaim.specs.Moves.{FreesBySteps};
 ghost use Rattle.mem_reclaim.specs.Passes.{PassesGroup, ReclaimsGroup, TakesTurn, is_first};
-ghost use Rattle.mem_reclaim.specs.Passes.{is_last, subtree_of};
+ghost use Rattle.mem_reclaim.specs.Passes.{keeps_no_unit, is_last, subtree_of};
 ghost use Rattle.mem_reclaim.specs.Shares.{TakesItsShare, part_of, shares_by};
 ghost use Rattle.mem_reclaim.specs.Passes.{notes_spared, spared_by, third_pass, turn_want, with_detail_if};
 ghost use Rattle.mem_reclaim.specs.Staying.{Keeps, MissedAll, MissedOfGroup, MissedOrKept, OnlyLeave};
@@ -208,7 +208,15 @@ fn note_spared<N: BootName>(
     }
 }
 
-// The turn of a group in a pass. What protects the group is found now, since earlier turns changed what its parents use.
+// Whether the group keeps no unit.
+fn keeps_no_unit<N: BootName>(machine: &Machine<N>, group: GroupId) -> bool
+    ensures { result ≡ keeps_no_unit machine.now group }
+{
+    machine.list_len(group, LruList::Inactive) == 0 && machine.list_len(group, LruList::Active) == 0
+}
+
+// The turn of a group in a pass. A group that keeps no unit has nothing to give, whatever protects it. Otherwise what
+// protects the group is found now, since earlier turns changed what its parents use.
 fn take_turn<N: BootName>(
     machine: &mut Machine<N>,
     tables: &Tables<N>,
@@ -228,8 +236,12 @@ fn take_turn<N: BootName>(
     ensures tried { is_last pass machine.old.ledger.settings ≡ true → result < want
         → MissedOrKept target group machine.old machine.new }
 {
+    machine.prove_consistent();
     let charges = machine.charges();
     prove_charges(charges);
+    if keeps_no_unit(machine, group) {
+        return 0;
+    }
     let protection = protection_of(charges, target, group);
     let usage = charges.current(group);
     let wanted = turn_want(want, usage, spared_by(pass, protection));

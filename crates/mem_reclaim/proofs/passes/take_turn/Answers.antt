@@ -1,13 +1,25 @@
-use Rattle.group_tree.proofs.CallerLemmas.{in_subtree-refl}
+use Rattle.group_tree.proofs.CallerLemmas.{in_subtree-refl, number_below}
 use Rattle.std.proofs.Common.{sym, ap, ◌∙◌, subst}
 use Rattle.boot_words.specs.Pasts.{IsHeld}
-use Rattle.group_tree.specs.Groups.{has_group}
+use Rattle.group_tree.specs.Groups.{AreGroups, has_group}
+use Rattle.group_charge.specs.Charges.{Ledger}
 use Rattle.group_charge.specs.declared.note.Note.TheVariants.{Spared}
 use Rattle.mem_machine.specs.Machines.{KnownMachine}
 use Rattle.mem_machine.specs.Clean.{clean_pages}
 use Rattle.mem_reclaim.specs.Passes.{notes_spared}
+use Rattle.mem_reclaim.proofs.NoUnits.{turn_of_none}
 use Rattle.mem_reclaim.proofs.Passing.{only_noted, turn_none, turn_some}
 use Rattle.mem_reclaim.proofs.passes.take_turn.Goals as goal
+
+pub returns-then-keeps_no_unit : goal.returns-then-keeps_no_unit
+returns-then-keeps_no_unit g c =
+    let m = c.args.machine.now in
+    let facts = subst (λ (l : Ledger). AreGroups l.groups) c.charges-charges.ensures c.prove_charges.ensures.legal.groups in
+    let taken =
+    turn_of_none g.N.BootName.table c.args.group m c.prove_consistent.ensures (number_below m.ledger.groups c.args.group facts c.requires.there)
+    (sym c.keeps_no_unit.ensures ∙ c.if-keeps_no_unit.true) c.args.pass c.args.target c.args.want facts c.requires.inside
+    (in_subtree-refl m.ledger.groups c.args.group c.requires.there) in
+    record { turn = taken.turn; keeps = taken.keeps; usage = taken.usage; few = taken.few; leaves = taken.leaves; tried = taken.tried }
 
 pub returns-then-wanted-eq0 : goal.returns-then-wanted-eq0
 returns-then-wanted-eq0 g c =
