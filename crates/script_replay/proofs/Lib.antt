@@ -2,6 +2,7 @@ pub mod InOrder
 pub mod InRange
 pub mod Going
 pub mod Gaining
+pub mod Gets
 pub mod Growing
 pub mod Taking
 pub mod Numbering

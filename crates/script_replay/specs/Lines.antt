@@ -1,14 +1,20 @@
 -- What lines do, one after the other. As with commands, `Writes..` relates a transition to a text, and `Serves..` does
 -- so by some steps.
-use Rattle.std.specs.Prelude.{◌≡◌, ℕ, Bool, ◌-◌, ◌≤◌, List, [], ◌∷◌, ◌++◌, Some, length, slice_get, slice_set, take}
-use Rattle.boot_words.specs.{own_past, IsRunSoFar}
+use Rattle.std.specs.Prelude.{◌≡◌, ℕ, Bool, true, ◌-◌, ◌≤◌, List, [], ◌∷◌, ◌++◌, Ok, Some, length, slice_get, slice_set, take}
+use Rattle.frame_word.specs.declared.answers.Get.{Get}
+use Rattle.boot_words.specs.{own_past, IsRunSoFar, changes_nothing}
+use Rattle.boot_words.specs.Pasts.{get_said}
+use Rattle.cpu_part.specs.{steps_of_get}
 use Rattle.step_rules.specs.After.{Run}
 use Rattle.mem_system.specs.{CpuInRun, pasts_of, IsSound, KnownLocked, locked_state}
 use Rattle.mem_system.specs.Visits.{Transition, transition}
+use Rattle.reply_texts.specs.declared.line_answer.LineAnswer.TheVariants.{Unlocked}
+use Rattle.reply_texts.specs.declared.steps.UnlockedAnswer.TheVariants.{Got}
+use Rattle.script_lines.specs.declared.line.Command.TheVariants as command
 use Rattle.script_lines.specs.declared.line.Line.{Line}
 use Rattle.script_lines.specs.declared.line.Line.TheVariants.{Go, At}
 use Rattle.script_replay.specs.Terms.{Terms}
-use Rattle.script_replay.specs.Answers.{WritesCommand}
+use Rattle.script_replay.specs.Answers.{AnswersCommand, CpuStays, OnlySaw, WritesCommand}
 use Rattle.script_replay.specs.Numbers.{SaysNumbered}
 
 -- what lies behind the lock, and all CPUs, from CPU 1 on
@@ -102,6 +108,25 @@ abbrev pub AllLinesGoOn : Type 0
 AllLinesGoOn = (terms : Terms) (lines : List Line) (before after : SystemState) (text : List ℕ)
     (served : ServesAll terms lines before after text)
     → RunGoesOn (steps_of_served terms lines before after text served) before after
+
+-- the CPU's get of the frame was answered so
+abbrev pub AnswersGet : (is_explained : Bool) (cpu frame : ℕ) → Get → Transition SystemState → Type 0
+AnswersGet is_explained cpu frame got call =
+    AtPart cpu (λ part left. AnswersCommand is_explained (command.Get frame)
+    (transition call.table (locked_state call.before.locked part) call.steps (locked_state call.after.locked left))
+    (Unlocked (Got got))) call.before.cpus call.after.cpus
+
+-- Whatever the run so far was, it goes on by these steps. Nothing else changes, behind the lock and of the CPU.
+pub record OnlyGoesOn (steps : Run) (call : Transition SystemState) (part left : CpuInRun) : Type 0 where
+  pub goes_on : RunGoesOn steps call.before call.after
+  pub locked : OnlySaw call.table [] call.before.locked call.after.locked
+  pub stays : CpuStays part left
+
+-- A get that is answered `zero` or `full` is a step of the run at its place, which no log has. It changes nothing.
+abbrev pub QuietGetsAreSteps : Type 0
+QuietGetsAreSteps = (is_explained : Bool) (cpu frame : ℕ) (got : Get) (call : Transition SystemState)
+    → changes_nothing (get_said got) ≡ true → (answers : AnswersGet is_explained cpu frame got call)
+    → OnlyGoesOn (steps_of_get answers.part.part.number frame (Ok got)) call answers.part answers.left
 
 -- Memory ran out for the text of the line of this number. The lines up to and including it were served, once each, and
 -- no line after it was. Nobody gets their texts, its own included.
