@@ -9,7 +9,7 @@ use Rattle.step_rules.proofs.Runs.{legal_from}
 use Rattle.mem_core.specs.declared.verdict.Verdict.TheVariants as verdict
 use Rattle.mem_core.proofs.Checking.{says_of_log}
 use Rattle.log_lines.specs.declared.line.LogLine.{LogLine}
-use Rattle.log_lines.specs.Log.{IsLog, WholeLog, says_something, zone_line}
+use Rattle.log_lines.specs.Log.{IsLog, WholeLog, says_something, line_of_zone}
 use Rattle.log_lines.proofs.BadLines.{bad_line_is_no_log, continues, filter_append, says_both}
 use Rattle.log_lines.proofs.Logs.{ended, line_of_entry, same_entry, same_log, same_zone}
 use Rattle.log_check.specs.declared.verdict.LogVerdict.{LogVerdict}
@@ -34,10 +34,10 @@ record GoesOn (log front : WholeLog) : Type 0 where
   zone : log.zone ≡ front.zone
 
 goes_on_from : (log front : WholeLog) (back : List LogLine)
-    → zone_line front.zone ∷ (map line_of_entry front.run ++ back) ≡ zone_line log.zone ∷ map line_of_entry log.run
+    → line_of_zone front.zone ∷ (map line_of_entry front.run ++ back) ≡ line_of_zone log.zone ∷ map line_of_entry log.run
     → GoesOn log front
 goes_on_from log front back e =
-    let heads : zone_line log.zone ≡ zone_line front.zone = cc in
+    let heads : line_of_zone log.zone ≡ line_of_zone front.zone = cc in
     let tails : map line_of_entry front.run ++ back ≡ map line_of_entry log.run = cc in
     let steps = steps_begin front.run log.run back tails in
     record { more = steps.0; run = steps.1; zone = same_zone log.zone front.zone heads }

@@ -14,7 +14,7 @@ use Rattle.step_rules.proofs.Runs.{legal_more, one_more, state_more}
 use Rattle.mem_core.specs.{CoreState, state_shown, Leads}
 use Rattle.log_lines.specs.declared.line.LogLine.{LogLine}
 use Rattle.log_lines.specs.declared.line.LogLine.TheVariants as kinds
-use Rattle.log_lines.specs.Log.{MayBegin, SayInOrder, WholeLog, says_something, zone_line}
+use Rattle.log_lines.specs.Log.{MayBegin, SayInOrder, WholeLog, says_something, line_of_zone}
 use Rattle.log_lines.proofs.BadLines.{filter_append}
 use Rattle.log_lines.proofs.Logs.{line_of_entry}
 use Rattle.log_check.specs.declared.line_fault.LineFault.TheVariants.{SizesAgain, StepFirst}
@@ -86,60 +86,60 @@ no_steps_free zone = refl
 
 pub takes_zone : (count : ℕ) (lines : List LogLine) (zone : Zone) (steps free : ℕ) (left : List IllegalStep) (s : CoreState)
     → Checked None count lines steps free left → state_shown s ≡ at_boot zone
-    → Checked (Some s) (count + 1) (lines ++ zone_line zone ∷ []) steps free left
+    → Checked (Some s) (count + 1) (lines ++ line_of_zone zone ∷ []) steps free left
 takes_zone count lines zone steps free left s nothing state =
     let boot = at_boot zone in
-    let leaves : LeavesOut (record { lines = 0; steps = 0; state = boot }) (lines ++ zone_line zone ∷ []) []
+    let leaves : LeavesOut (record { lines = 0; steps = 0; state = boot }) (lines ++ line_of_zone zone ∷ []) []
     (record { lines = count + 1; steps = 0; state = boot }) =
-    none_more _ lines (zone_line zone) [] _ _ (nothing.leaves boot) (refl, refl) in
+    none_more _ lines (line_of_zone zone) [] _ _ (nothing.leaves boot) (refl, refl) in
     record {
       log = record { zone = zone; run = [] };
-      order = filter_append lines (zone_line zone ∷ []) ∙ ap (λ (ls : List LogLine). ls ++ zone_line zone ∷ []) nothing.empty;
+      order = filter_append lines (line_of_zone zone ∷ []) ∙ ap (λ (ls : List LogLine). ls ++ line_of_zone zone ∷ []) nothing.empty;
       steps_are = nothing.no_steps;
       made = [];
       legal = no_steps_legal zone;
       state = state;
       free_is = nothing.none_free ∙ sym (no_steps_free zone);
-      leaves = subst (λ (l : List IllegalStep). LeavesOut (at_start zone) (lines ++ zone_line zone ∷ []) l (record { lines = count + 1; steps = steps; state = boot }))
-          (sym nothing.none_left) (subst (λ (n : ℕ). LeavesOut (at_start zone) (lines ++ zone_line zone ∷ []) [] (record { lines = count + 1; steps = n; state = boot }))
+      leaves = subst (λ (l : List IllegalStep). LeavesOut (at_start zone) (lines ++ line_of_zone zone ∷ []) l (record { lines = count + 1; steps = steps; state = boot }))
+          (sym nothing.none_left) (subst (λ (n : ℕ). LeavesOut (at_start zone) (lines ++ line_of_zone zone ∷ []) [] (record { lines = count + 1; steps = n; state = boot }))
           (sym nothing.no_steps) leaves);
       whole = λ none. refl;
       none = λ legal. nothing.none_left;
     }
 
 -- the steps of no log are followed by the sizes of a zone
-no_zone_among : (run more : List (Step × Answer)) (zone : Zone) → map line_of_entry run ++ zone_line zone ∷ [] ≡ map line_of_entry more → ⊥
+no_zone_among : (run more : List (Step × Answer)) (zone : Zone) → map line_of_entry run ++ line_of_zone zone ∷ [] ≡ map line_of_entry more → ⊥
 no_zone_among [] [] zone e = cc
 no_zone_among [] (y ∷ more) zone e = cc
 no_zone_among (x ∷ run) [] zone e = cc
 no_zone_among (x ∷ run) (y ∷ more) zone e =
-    let tails : map line_of_entry run ++ zone_line zone ∷ [] ≡ map line_of_entry more = cc in
+    let tails : map line_of_entry run ++ line_of_zone zone ∷ [] ≡ map line_of_entry more = cc in
     no_zone_among run more zone tails
 
 second_in_order : (log other : WholeLog) (zone : Zone)
-    → zone_line log.zone ∷ (map line_of_entry log.run ++ zone_line zone ∷ []) ≡ zone_line other.zone ∷ map line_of_entry other.run → ⊥
+    → line_of_zone log.zone ∷ (map line_of_entry log.run ++ line_of_zone zone ∷ []) ≡ line_of_zone other.zone ∷ map line_of_entry other.run → ⊥
 second_in_order log other zone e =
-    let tails : map line_of_entry log.run ++ zone_line zone ∷ [] ≡ map line_of_entry other.run = cc in
+    let tails : map line_of_entry log.run ++ line_of_zone zone ∷ [] ≡ map line_of_entry other.run = cc in
     no_zone_among log.run other.run zone tails
 
 second_zone : (said : List LogLine) (log : WholeLog) (zone : Zone)
-    → said ≡ zone_line log.zone ∷ (map line_of_entry log.run ++ zone_line zone ∷ [])
-    → ((said ≡ []) ⊎ ((other : WholeLog) × (said ≡ zone_line other.zone ∷ map line_of_entry other.run))) → ⊥
+    → said ≡ line_of_zone log.zone ∷ (map line_of_entry log.run ++ line_of_zone zone ∷ [])
+    → ((said ≡ []) ⊎ ((other : WholeLog) × (said ≡ line_of_zone other.zone ∷ map line_of_entry other.run))) → ⊥
 second_zone said log zone e (inl none) = cc
 second_zone said log zone e (inr other) = second_in_order log other.0 zone (sym e ∙ other.1)
 
 pub refuses_zone : (count : ℕ) (lines : List LogLine) (zone : Zone) (steps free : ℕ) (left : List IllegalStep) (s : CoreState)
-    → Checked (Some s) count lines steps free left → ¬ MayBegin (lines ++ zone_line zone ∷ [])
+    → Checked (Some s) count lines steps free left → ¬ MayBegin (lines ++ line_of_zone zone ∷ [])
 refuses_zone count lines zone steps free left s checked begins =
-    second_zone (filter says_something (lines ++ zone_line zone ∷ [])) checked.log zone
-    (filter_append lines (zone_line zone ∷ []) ∙ ap (λ (ls : List LogLine). ls ++ zone_line zone ∷ []) checked.order) begins
+    second_zone (filter says_something (lines ++ line_of_zone zone ∷ [])) checked.log zone
+    (filter_append lines (line_of_zone zone ∷ []) ∙ ap (λ (ls : List LogLine). ls ++ line_of_zone zone ∷ []) checked.order) begins
 
-some_lines : (log : WholeLog) (said : List LogLine) → said ≡ zone_line log.zone ∷ map line_of_entry log.run → said ≡ [] → ⊥
+some_lines : (log : WholeLog) (said : List LogLine) → said ≡ line_of_zone log.zone ∷ map line_of_entry log.run → said ≡ [] → ⊥
 some_lines log said order none = let same = sym order ∙ none in cc
 
 pub second_sizes : (checker : Option CoreState) (count : ℕ) (lines : List LogLine) (zone : Zone) (steps free : ℕ) (left : List IllegalStep)
     → is_some checker ≡ true → Checked checker count lines steps free left
-    → ¬ MayBegin (lines ++ zone_line zone ∷ []) × IsMisplaced SizesAgain lines (zone_line zone)
+    → ¬ MayBegin (lines ++ line_of_zone zone ∷ []) × IsMisplaced SizesAgain lines (line_of_zone zone)
 second_sizes None count lines zone steps free left some checked = absurd (false≢true some)
 second_sizes (Some s) count lines zone steps free left some checked = (
   refuses_zone count lines zone steps free left s checked,
@@ -154,7 +154,7 @@ no_sizes (Some s) count lines steps free left none checked = absurd (false≢tru
 -- ---- a step
 
 first_step : (said : List LogLine) (step : Step) (answer : Answer) → said ≡ kinds.Step step answer ∷ []
-    → ((said ≡ []) ⊎ ((other : WholeLog) × (said ≡ zone_line other.zone ∷ map line_of_entry other.run))) → ⊥
+    → ((said ≡ []) ⊎ ((other : WholeLog) × (said ≡ line_of_zone other.zone ∷ map line_of_entry other.run))) → ⊥
 first_step said step answer e (inl none) = cc
 first_step said step answer e (inr other) = let same = sym e ∙ other.1 in cc
 
@@ -171,7 +171,7 @@ step_in_order : (lines : List LogLine) (log : WholeLog) (step : Step) (answer : 
     → SayInOrder (lines ++ kinds.Step step answer ∷ []) (log_more log step answer)
 step_in_order lines log step answer order =
     filter_append lines (kinds.Step step answer ∷ []) ∙ ap (λ (ls : List LogLine). ls ++ kinds.Step step answer ∷ []) order
-    ∙ ap (λ (ls : List LogLine). zone_line log.zone ∷ ls) (sym (map-append line_of_entry log.run ((step, answer) ∷ [])))
+    ∙ ap (λ (ls : List LogLine). line_of_zone log.zone ∷ ls) (sym (map-append line_of_entry log.run ((step, answer) ∷ [])))
 
 get_last : {X : Type 0} (xs : List X) (x : X) → slice_get (xs ++ x ∷ []) (length xs) ≡ Some x
 get_last [] x = refl

@@ -7,7 +7,7 @@ use Rattle.step_rules.specs.declared.step.Step.{Step}
 use Rattle.step_rules.specs.declared.step.Answer.{Answer}
 use Rattle.log_lines.specs.declared.line.LogLine.{LogLine}
 use Rattle.log_lines.specs.declared.line.LogLine.TheVariants as kinds
-use Rattle.log_lines.specs.{IsLogLineText, EndsBadly, IsFirstBadLogLine, IsLog, MayBegin, SayInOrder, WholeLog, says_something, zone_line}
+use Rattle.log_lines.specs.{IsLogLineText, EndsBadly, IsFirstBadLogLine, IsLog, MayBegin, SayInOrder, WholeLog, says_something, line_of_zone}
 use Rattle.log_lines.proofs.Lines.{same_line}
 use Rattle.log_lines.proofs.Logs.{ended, line_of_entry}
 
@@ -97,11 +97,11 @@ steps_front (x ∷ front) back (s ∷ run) e =
     let others = steps_front front back run tails in
     (s ∷ others.0, ap₂ (λ (l : LogLine) (ls : List LogLine). l ∷ ls) heads others.1)
 
-begun : (said back : List LogLine) (log : WholeLog) → said ++ back ≡ zone_line log.zone ∷ map line_of_entry log.run
-    → (said ≡ []) ⊎ ((start : WholeLog) × (said ≡ zone_line start.zone ∷ map line_of_entry start.run))
+begun : (said back : List LogLine) (log : WholeLog) → said ++ back ≡ line_of_zone log.zone ∷ map line_of_entry log.run
+    → (said ≡ []) ⊎ ((start : WholeLog) × (said ≡ line_of_zone start.zone ∷ map line_of_entry start.run))
 begun [] back log e = inl refl
 begun (x ∷ said) back log e =
-    let heads : x ≡ zone_line log.zone = cc in
+    let heads : x ≡ line_of_zone log.zone = cc in
     let tails : said ++ back ≡ map line_of_entry log.run = cc in
     let steps = steps_front said back log.run tails in
     inr (record { zone = log.zone; run = steps.0 }, ap₂ (λ (l : LogLine) (ls : List LogLine). l ∷ ls) heads steps.1)
@@ -116,7 +116,7 @@ not_bad : (texts : List (List ℕ)) (said lines : List LogLine) (rest : List ℕ
 not_bad [] [] lines rest log bad no_feeds text says order =
     let nothing : filter says_something lines ≡ [] = bad.no_sizes text in
     let whole : filter says_something (lines ++ []) ≡ [] = ap (filter says_something) (append-nil lines) ∙ nothing in
-    let wrong : [] ≡ zone_line log.zone ∷ map line_of_entry log.run = sym whole ∙ order in
+    let wrong : [] ≡ line_of_zone log.zone ∷ map line_of_entry log.run = sym whole ∙ order in
     cc
 not_bad [] (x ∷ said) lines rest log bad no_feeds text says order = absurd says
 not_bad (t ∷ texts) [] lines rest log bad no_feeds text says order = absurd says

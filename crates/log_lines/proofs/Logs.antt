@@ -8,7 +8,7 @@ use Rattle.step_rules.specs.declared.step.Answer.{Answer}
 use Rattle.step_rules.specs.State.{Zone}
 use Rattle.log_lines.specs.declared.line.LogLine.{LogLine}
 use Rattle.log_lines.specs.declared.line.LogLine.TheVariants as kinds
-use Rattle.log_lines.specs.{IsLogLineText, AreLinesOf, IsLog, WholeLog, says_something, zone_line}
+use Rattle.log_lines.specs.{IsLogLineText, AreLinesOf, IsLog, WholeLog, says_something, line_of_zone}
 use Rattle.log_lines.proofs.Lines.{same_line}
 
 -- a line with its line feed
@@ -62,7 +62,7 @@ same_sizes : (f g c d m n : ℕ) → f ≡ g → c ≡ d → m ≡ n
     → ◌≡◌ {A = Zone} (record { frames = f; cpus = c; groups = m }) (record { frames = g; cpus = d; groups = n })
 same_sizes f g c d m n e h k = cc
 
-pub same_zone : (one other : Zone) → zone_line one ≡ zone_line other → one ≡ other
+pub same_zone : (one other : Zone) → line_of_zone one ≡ line_of_zone other → one ≡ other
 same_zone one other e =
     let frames : one.frames ≡ other.frames = cc in
     let cpus : one.cpus ≡ other.cpus = cc in
@@ -73,9 +73,9 @@ whole : (one other : Zone) (r s : List (Step × Answer)) → one ≡ other → r
     → ◌≡◌ {A = WholeLog} (record { zone = one; run = r }) (record { zone = other; run = s })
 whole one other r s e h = cc
 
-same_parts : (one other : WholeLog) → zone_line one.zone ∷ map line_of_entry one.run ≡ zone_line other.zone ∷ map line_of_entry other.run → one ≡ other
+same_parts : (one other : WholeLog) → line_of_zone one.zone ∷ map line_of_entry one.run ≡ line_of_zone other.zone ∷ map line_of_entry other.run → one ≡ other
 same_parts one other e =
-    let heads : zone_line one.zone ≡ zone_line other.zone = cc in
+    let heads : line_of_zone one.zone ≡ line_of_zone other.zone = cc in
     let tails : map line_of_entry one.run ≡ map line_of_entry other.run = cc in
     whole one.zone other.zone one.run other.run (same_zone one.zone other.zone heads) (same_run one.run other.run tails)
 

@@ -20,12 +20,12 @@ pub record WholeLog : Type 0 where
   pub run : List (Step × Answer)
 
 -- the line with the sizes of the zone
-abbrev pub zone_line : Zone → LogLine
-zone_line zone = kinds.Zone zone.frames zone.cpus zone.groups
+abbrev pub line_of_zone : Zone → LogLine
+line_of_zone zone = kinds.Zone zone.frames zone.cpus zone.groups
 
 -- the lines are the zone's sizes, then the steps, with empty lines and comments anywhere
 abbrev pub SayInOrder : List LogLine → WholeLog → Type 0
-SayInOrder lines log = filter says_something lines ≡ zone_line log.zone ∷ map (λ e. kinds.Step e.0 e.1) log.run
+SayInOrder lines log = filter says_something lines ≡ line_of_zone log.zone ∷ map (λ e. kinds.Step e.0 e.1) log.run
 
 -- the lines of a text, each of which ends with a line feed
 pub record AreLinesOf (text : List ℕ) (lines : List (List ℕ)) : Type 0 where
