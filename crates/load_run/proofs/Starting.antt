@@ -4,6 +4,7 @@ use Rattle.std.proofs.Common.{◌≡◌, ℕ, ◌+◌, Some, List, [], ◌++◌,
 use Rattle.std.specs.List.{slice_get}
 use Rattle.std.proofs.lemmas.Option.{slice_get_within}
 use Rattle.cpu_part.specs.Cpus.{KnownCpuLists, first_cpu}
+use Rattle.zone_blocks.specs.declared.choices.Choices.{Choices}
 use Rattle.zone_blocks.specs.declared.config.Config.{Config}
 use Rattle.step_rules.specs.State.{Zone}
 use Rattle.step_watch.specs.Watched.{IsNewWatch, KnownWatch}
