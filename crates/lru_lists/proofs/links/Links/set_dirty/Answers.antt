@@ -6,5 +6,5 @@ use Rattle.lru_lists.proofs.links.Links.set_dirty.Goals as goal
 pub returns : goal.returns
 returns c =
     changed c.self.inside.records.items c.args.self.now c.args.unit c.index_mut.result.now
-    (record c.index_mut.result.now { is_dirty = c.args.is_dirty }) (λ (k : Link). record k { is_dirty = c.args.is_dirty })
+    (record c.index_mut.result.now { flags = c.of.result }) (λ (k : Link). record k { is_dirty = c.args.is_dirty })
     c.self.view_is c.requires c.index_mut.ensures.value refl
