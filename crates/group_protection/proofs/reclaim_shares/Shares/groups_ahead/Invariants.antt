@@ -6,4 +6,4 @@ use Rattle.group_protection.proofs.reclaim_shares.Shares.groups_ahead.Given as g
 abbrev pub invariant-loop-other : goal.invariant-loop-other
 invariant-loop-other l =
     (l.ahead ≤ l.other)
-    × (l.ahead ≡ sum_below l.other (λ other. cond (is_ahead most_groups (slice_index l.self.available) l.self.want other l.group) 1 0))
+    × (l.ahead ≡ sum_below l.other (λ other. cond (is_ahead l.self.room (slice_index l.self.available) l.self.want other l.group) 1 0))

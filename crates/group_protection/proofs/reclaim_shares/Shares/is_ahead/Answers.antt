@@ -6,15 +6,15 @@ use Rattle.group_protection.specs.Shares.{Sharing, is_ahead, remainder}
 use Rattle.group_protection.proofs.reclaim_shares.Shares.is_ahead.Goals as goal
 
 -- what is compared
-module _ (s : Inside) (now : Sharing) (view : record { available = s.available; want = s.want } ≡ now) (other group : ℕ)
-    (theirs : slice_index s.remainders other ≡ remainder most_groups (slice_index s.available) s.want other)
-    (own : slice_index s.remainders group ≡ remainder most_groups (slice_index s.available) s.want group) where
+module _ (s : Inside) (now : Sharing) (view : record { room = s.room; available = s.available; want = s.want } ≡ now) (other group : ℕ)
+    (theirs : slice_index s.remainders other ≡ remainder s.room (slice_index s.available) s.want other)
+    (own : slice_index s.remainders group ≡ remainder s.room (slice_index s.available) s.want group) where
   at_remainders : (nat_lt (slice_index s.remainders group) (slice_index s.remainders other) || (nat_eq (slice_index s.remainders other) (slice_index s.remainders group) && nat_lt other group))
-      ≡ is_ahead most_groups (slice_index now.available) now.want other group
+      ≡ is_ahead now.room (slice_index now.available) now.want other group
   unfolding is_ahead
   at_remainders =
       (λ i. nat_lt (own i) (theirs i) || (nat_eq (theirs i) (own i) && nat_lt other group))
-      ∙ ap (λ (x : Sharing). is_ahead most_groups (slice_index x.available) x.want other group) view
+      ∙ ap (λ (x : Sharing). is_ahead x.room (slice_index x.available) x.want other group) view
 
 at_first : (a b : Bool) → a ≡ true → a ≡ (a || b)
 at_first a b is = rw is refl
