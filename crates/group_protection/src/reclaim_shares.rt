@@ -103,11 +103,20 @@ impl Shares {
         }
     }
 
+    // How many numbers groups may have.
+    fn room(&self) -> usize
+        ensures room { result ≡ self.now.room }
+        ensures most { result ≤ most_groups }
+    {
+        self.room
+    }
+
     // Whether the other group gives a page that lacks before this group does.
     fn is_ahead(&self, other: usize, group: usize) -> bool
         requires { (other < self.now.room) × (group < self.now.room) }
         ensures { result ≡ is_ahead self.now.room (slice_index self.now.available) self.now.want other group }
     {
+        let _room = self.room(); // Called for its contract.
         let theirs = self.remainders[other];
         let own = self.remainders[group];
         own < theirs || (theirs == own && other < group)
@@ -119,7 +128,7 @@ impl Shares {
         ensures { result ≡ groups_ahead self.now.room (slice_index self.now.available) self.now.want group }
     {
         let mut ahead = 0;
-        for other in 0..self.room {
+        for other in 0..self.room() {
             ahead += u64::from(self.is_ahead(other, group));
         }
         ahead
@@ -130,6 +139,7 @@ impl Shares {
         requires { group < self.now.room }
         ensures { result ≡ reclaim_share self.now.room (slice_index self.now.available) self.now.want group }
     {
+        let _room = self.room(); // Called for its contract.
         let number = group.number() as usize;
         let shared = self.want.min(self.total);
         let part = whole_part(shared, self.available[number], self.total);

@@ -1,5 +1,4 @@
 use Rattle.std.proofs.Common.{◌≡◌, Bool, sym, ap, ◌∙◌, arith, cond, slice_index}
-use Rattle.group_tree.specs.Bounds.{most_groups}
 use Rattle.group_protection.specs.Shares.{is_ahead, groups_ahead, sum_below}
 use Rattle.group_protection.proofs.SumsBelow.{byte_is, one_at_most, sum_below_more, sum_below_none}
 use Rattle.group_protection.proofs.reclaim_shares.Shares.groups_ahead.Goals as goal

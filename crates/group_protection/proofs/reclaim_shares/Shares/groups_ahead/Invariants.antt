@@ -1,5 +1,4 @@
 use Rattle.std.proofs.Common.{◌≡◌, ◌≤◌, slice_index, cond}
-use Rattle.group_tree.specs.Bounds.{most_groups}
 use Rattle.group_protection.specs.Shares.{is_ahead, sum_below}
 use Rattle.group_protection.proofs.reclaim_shares.Shares.groups_ahead.Given as goal
 

@@ -2,7 +2,6 @@ use Rattle.std.proofs.Common.{◌≡◌, ℕ, ◌-◌, sym, ap, ◌∙◌, arith
 use Rattle.std.specs.Prelude.{min}
 use Rattle.std.proofs.lemmas.List.{length-set}
 use Rattle.std.proofs.lemmas.List.Edits.{fill_by_more}
-use Rattle.group_tree.specs.Bounds.{most_groups}
 use Rattle.group_protection.specs.Shares.{pages_lacking, remainder, sum_below, whole_part}
 use Rattle.group_protection.proofs.Parting.{parts_fit, remainder_is, whole_part_is}
 use Rattle.group_protection.proofs.SumsBelow.{sum_below_more, sum_below_none}
@@ -37,7 +36,7 @@ loop-number-preserved c =
 
 pub overflow_sub-result : goal.overflow_sub-result
 overflow_sub-result c =
-    let end : c.loop-number.number ≡ most_groups = omega arith in
+    let end : c.loop-number.number ≡ c.args.room = omega arith in
     let so = c.loop-number.invariant.given ∙ ap (λ n. sum_below n (whole_part c.args.room (slice_index c.args.available) c.args.want)) end in
     let fit = parts_fit c.args.room (slice_index c.args.available) c.args.want in
     let shared = c.min-shared.ensures ∙ ap (min c.args.want) c.total_of-total.ensures in
@@ -46,10 +45,11 @@ overflow_sub-result c =
 pub invariant_of-result : goal.invariant_of-result
 unfolding pages_lacking
 invariant_of-result c =
-    let end : c.loop-number.number ≡ most_groups = omega arith in
+    let end : c.loop-number.number ≡ c.args.room = omega arith in
     let so = c.loop-number.invariant.given ∙ ap (λ n. sum_below n (whole_part c.args.room (slice_index c.args.available) c.args.want)) end in
     let shared = c.min-shared.ensures ∙ ap (min c.args.want) c.total_of-total.ensures in (
       c.total_of-total.ensures,
       (λ group less. c.loop-number.invariant.kept group (omega (arith, less, end))),
       (λ i. shared i - so i),
+      c.requires,
     )

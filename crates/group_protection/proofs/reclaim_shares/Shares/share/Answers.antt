@@ -1,5 +1,4 @@
 use Rattle.std.proofs.Common.{◌+◌, ap, ◌∙◌, cond, ltb, slice_index}
-use Rattle.group_tree.specs.Bounds.{most_groups}
 use Rattle.group_protection.specs.Shares.{Sharing, groups_ahead, pages_lacking, reclaim_share, whole_part}
 use Rattle.group_protection.proofs.Parting.{whole_part_is}
 use Rattle.group_protection.proofs.SumsBelow.{byte_is}
