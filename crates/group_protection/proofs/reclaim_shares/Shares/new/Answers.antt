@@ -51,5 +51,5 @@ invariant_of-result c =
       c.total_of-total.ensures,
       (λ group less. c.loop-number.invariant.kept group (omega (arith, less, end))),
       (λ i. shared i - so i),
-      c.requires,
+      c.requires.room,
     )
