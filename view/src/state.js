@@ -229,6 +229,7 @@ export class State {
     if (group === top) return 0;
     if (parent === top) return most < 0 ? MOST_NUMBER : most;
     const above = this.protection(key, top, parent), claim = this.claim(group, key);
+    if (!above) return 0; // before the sum over all groups, of which a zone may have many
     const claims = this.groups.reduce((sum, each) => each?.parent === parent ? sum + this.claim(each.number, key) : sum,
       0);
     if (claims > above) return Math.floor(claim * above / claims);
