@@ -156,9 +156,10 @@ impl Rows {
         ensures kept { result ≡ frames_kept self.now.tree (state_in self.now).phases self.now.frames group }
         ensures few { result ≤ most_groups * most_frames }
     {
+        let _groups = self.tree.groups(); // Called for its contract: no group's number is beyond the room.
         let mut sum = 0u128;
         let kept = self.phases.kept();
-        for number in 0..MAX_GROUPS as u32 {
+        for number in 0..self.tree.room() {
             sum += self.kept_in_subtree(kept, group, number);
         }
         sum
@@ -219,8 +220,9 @@ impl Rows {
         ensures pages { result ≡ pages_pending self.now.tree (state_in self.now).pending group }
         ensures few { result ≤ most_groups * 2 ^ 96 }
     {
+        let _groups = self.tree.groups(); // Called for its contract: no group's number is beyond the room.
         let mut sum = 0u128;
-        for number in 0..MAX_GROUPS as u32 {
+        for number in 0..self.tree.room() {
             sum += self.pending_in_subtree(group, number);
         }
         sum
