@@ -25,7 +25,7 @@ impl<N: BootName> Machine<N> {
     {
         match self.lists.get(group.number() as usize) {
             Some(lists) => *lists,
-            None => Lru::new(group.number() as u8),
+            None => Lru::new(group.number() as u16),
         }
     }
 

@@ -11,7 +11,6 @@ ghost use Rattle.mem_machine.specs.Machines.{HeadsKeptUnit, IsConsistent, frames
 use crate::counts::Counts;
 use crate::frame_state::{FrameState, Place};
 use crate::machine::Machine;
-use crate::proving::prove_charges;
 use cpu_part::BootName;
 use frame_word::Frame;
 use group_charge::charges::Charges;
@@ -69,8 +68,7 @@ impl<N: BootName> Machine<N> {
         ensures groups { result ≡ room_of self.now.ledger.groups }
         ensures few { result ≤ most_groups }
     {
-        prove_charges(&self.charges);
-        self.killed.len() as u32
+        self.charges.tree().room()
     }
 
     /// Whether the group of this number is killed.

@@ -130,7 +130,7 @@ fn empty_lists(alloc: Global, room: u32) -> Result<Vec<Lru>, AllocError>
     ensures { IfOk result (λ lists. AreEmpty lists.items room) }
 {
     let mut lists = Vec::with_capacity(alloc, room as usize)?;
-    for owner in 0..room as u8 {
+    for owner in 0..room as u16 {
         lists.push_reserved(Lru::new(owner));
     }
     Ok(lists)
