@@ -19,7 +19,7 @@ pub returns-clause-kept : goal.returns-clause-kept
 returns-clause-kept c =
     let s = state_in c.args.self.now in
     let sizes = c.kept-kept.result.now in
-    let all : c.loop-number.number ≡ room_of s.groups = omega (arith, c.room.ensures.room) in
+    let all : c.loop-number.number ≡ room_of s.groups = omega (arith, c.room-number-end.ensures.room) in
     let tally : IsTally s.zone.frames (λ f. keeper_class (s.phases f)) sizes =
     subst (λ (n : ℕ). IsTally n (λ f. keeper_class (s.phases f)) sizes) c.requires.fits.phases c.kept-kept.ensures.sizes in
     c.loop-number.invariant.sum

@@ -10,7 +10,7 @@ use Rattle.mem_core.proofs.rows.Rows.pages_pending.Goals as goal
 pub returns-clause-pages : goal.returns-clause-pages
 returns-clause-pages c =
     let s = state_in c.args.self.now in
-    let all : c.loop-number.number ≡ room_of s.groups = omega (arith, c.room.ensures.room) in
+    let all : c.loop-number.number ≡ room_of s.groups = omega (arith, c.room-number-end.ensures.room) in
     c.loop-number.invariant.sum
     ∙ ap (λ n. sum_to n (λ h. if in_subtree s.groups c.args.group h then s.pending h else 0)) all
     ∙ sum_room s.groups c.args.group s.pending c.groups.ensures.legal
