@@ -5,8 +5,17 @@ use std::sync::{Arc, Mutex};
 use std::thread;
 use tempolemon::{Error, Frame, Group, Owner, Released, Sizes, Touched, Zone, PROOF};
 
-const SIZES: Sizes =
-    Sizes { frames: 64, cpus: 2, batch: 4, high: 8, stock: 4, reclaim_batch: 0, no_kill: 0, proportional: 0, groups: 0 };
+const SIZES: Sizes = Sizes {
+    frames: 64,
+    cpus: 2,
+    batch: 4,
+    high: 8,
+    stock: 4,
+    reclaim_batch: 0,
+    no_kill: 0,
+    proportional: 0,
+    groups: 0,
+};
 
 fn boot() -> Zone {
     Zone::boot(&SIZES).unwrap()
