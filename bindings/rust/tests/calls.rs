@@ -77,6 +77,11 @@ fn refusals_are_errors() {
     assert_eq!(Zone::boot(&Sizes { high: 1, ..SIZES }).err(), Some(Error::BadConfig));
     assert_eq!(Zone::boot(&Sizes { reclaim_batch: 65, ..SIZES }).err(), Some(Error::BadConfig));
     assert_eq!(Zone::boot(&Sizes { groups: 1025, ..SIZES }).err(), Some(Error::BadConfig));
+    let few = Zone::boot(&Sizes { groups: 2, ..SIZES }).unwrap();
+    let one = few.take(1).unwrap();
+    one.mkdir("/a").unwrap();
+    assert_eq!(one.mkdir("/b"), Err(Error::TreeFull));
+    drop(one);
     assert_eq!(zone.take(1).err(), Some(Error::CpuOut));
     assert_eq!(zone.take(3).err(), Some(Error::BadCpu));
     assert_eq!(cpu.mkdir("/a/b"), Err(Error::NoParent));
