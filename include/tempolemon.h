@@ -42,7 +42,7 @@ extern "C" {
  * archive was made for another version, that call returns BAD_VERSION before it reads or writes what a pointer leads to.
  * A host that doesn't include this header calls _as itself, with the version that it was written for.
  */
-#define TEMPOLEMON_VERSION 2
+#define TEMPOLEMON_VERSION 3
 
 /* The version of the headers that the archive was made for. */
 uint32_t tempolemon_version(void);
@@ -172,6 +172,7 @@ typedef struct {
     uint32_t reclaim_batch; /* pages that a round of reclaim for a charge wants at least: 0 to 64; 0 is 1 */
     uint32_t no_kill; /* 0, or 1: nobody is killed, and a charge without room is refused with 15 */
     uint32_t proportional; /* 0, or 1: reclaim first takes of each group in proportion to its clean pages */
+    uint32_t groups; /* groups that may exist at once, with the root: 0 to 1,024; 0 is 64 */
 } tempolemon_sizes;
 
 /* Boots a zone, replays a script on it, and ends the boot. The answers are those of `memcg replay`, byte for byte.

@@ -80,6 +80,7 @@ class Calls(unittest.TestCase):
         cpu = self.cpu
         self.refuses(tempolemon.BadConfig, Zone, 64, 2, 4, 1)
         self.refuses(tempolemon.BadConfig, lambda: Zone(64, 2, reclaim_batch=65))
+        self.refuses(tempolemon.BadConfig, lambda: Zone(64, 2, groups=1025))
         self.refuses(tempolemon.CpuOut, self.zone.take, 1)
         self.refuses(tempolemon.BadCpu, self.zone.take, 3)
         self.refuses(tempolemon.NoParent, cpu.mkdir, "/a/b")

@@ -74,6 +74,9 @@ static void refusals(void) {
     tempolemon_sizes flagged = SIZES;
     flagged.no_kill = 2;
     is("a flag of two", tempolemon_zone_boot(&flagged, &zone), TEMPOLEMON_BAD_CONFIG);
+    tempolemon_sizes many_groups = SIZES;
+    many_groups.groups = 1025;
+    is("1,025 groups", tempolemon_zone_boot(&many_groups, &zone), TEMPOLEMON_BAD_CONFIG);
     is("a boot", tempolemon_zone_boot(&SIZES, &zone), TEMPOLEMON_DONE);
     is("a second boot", tempolemon_zone_boot(&SIZES, &zone), TEMPOLEMON_IS_LIVE);
     is("one of the next version", tempolemon_zone_boot_as(next, &SIZES, &zone), TEMPOLEMON_BAD_VERSION);

@@ -73,16 +73,17 @@ class Zone:
     or cut, 1 to 64. high: frames at which it is cut, batch to 256. stock: pages that a CPU prepays at once, 1 to 64.
     reclaim_batch: pages that a round of reclaim for a charge wants at least, 1 to 64. no_kill: nobody is killed, and a
     charge without room is refused. proportional: reclaim first takes of each group in proportion to its clean pages.
+    groups: groups that may exist at once, the root included, 1 to 1,024.
     """
 
     report: Report
 
     def __init__(self, frames: int, cpus: int, batch: int = 4, high: int = 8, stock: int = 4, *,
-                 reclaim_batch: int = 1, no_kill: bool = False, proportional: bool = False) -> None:
+                 reclaim_batch: int = 1, no_kill: bool = False, proportional: bool = False, groups: int = 64) -> None:
         self._handle, self._lock = raw.Handle(), threading.Lock()
         sizes = raw.Sizes(_word(frames, "frames"), _word(cpus, "cpus"), _word(batch, "batch"), _word(high, "high"),
                           _word(stock, "stock"), _word(reclaim_batch, "reclaim_batch"), _flag(no_kill, "no_kill"),
-                          _flag(proportional, "proportional"))
+                          _flag(proportional, "proportional"), _word(groups, "groups"))
         _need(raw.library.tempolemon_zone_boot_as(raw.VERSION, sizes, self._handle))
 
     def take(self, number: int) -> "Cpu":

@@ -4,12 +4,13 @@ import os
 from ctypes import POINTER, c_bool, c_char_p, c_size_t, c_uint8, c_uint32, c_uint64, c_void_p
 
 # The version of the headers that this package was written for.
-VERSION = 2
+VERSION = 3
 DONE, SMALL_BUFFER, BUSY = 0, 103, 109
 
 
 class Sizes(ctypes.Structure):
-    _fields_ = [(name, c_uint32) for name in ("frames", "cpus", "batch", "high", "stock", "reclaim_batch", "no_kill", "proportional")]
+    _fields_ = [(name, c_uint32) for name in ("frames", "cpus", "batch", "high", "stock", "reclaim_batch", "no_kill", "proportional",
+                                              "groups")]
 
 
 class Handle(ctypes.Structure):

@@ -43,6 +43,8 @@ pub struct Sizes {
     pub no_kill: u32,
     /// 0, or 1: reclaim first takes of each group in proportion to its clean pages.
     pub proportional: u32,
+    /// Groups that may exist at once, the root included: 0 to 1,024; 0 is 64.
+    pub groups: u32,
 }
 
 /// What a zone reports at its end, in the words of docs/MANUAL.md, "The end, and --audit".

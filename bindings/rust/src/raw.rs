@@ -4,7 +4,7 @@ use std::ffi::{c_char, c_void};
 use std::ptr::null_mut;
 
 /// The version of the headers that this crate was written for.
-pub const VERSION: u32 = 2;
+pub const VERSION: u32 = 3;
 
 pub const DONE: u8 = 0;
 pub const SMALL_BUFFER: u8 = 103;

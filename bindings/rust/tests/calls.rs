@@ -6,7 +6,7 @@ use std::thread;
 use tempolemon::{Error, Frame, Group, Owner, Released, Sizes, Touched, Zone, PROOF};
 
 const SIZES: Sizes =
-    Sizes { frames: 64, cpus: 2, batch: 4, high: 8, stock: 4, reclaim_batch: 0, no_kill: 0, proportional: 0 };
+    Sizes { frames: 64, cpus: 2, batch: 4, high: 8, stock: 4, reclaim_batch: 0, no_kill: 0, proportional: 0, groups: 0 };
 
 fn boot() -> Zone {
     Zone::boot(&SIZES).unwrap()
@@ -67,6 +67,7 @@ fn refusals_are_errors() {
     let cpu = zone.take(1).unwrap();
     assert_eq!(Zone::boot(&Sizes { high: 1, ..SIZES }).err(), Some(Error::BadConfig));
     assert_eq!(Zone::boot(&Sizes { reclaim_batch: 65, ..SIZES }).err(), Some(Error::BadConfig));
+    assert_eq!(Zone::boot(&Sizes { groups: 1025, ..SIZES }).err(), Some(Error::BadConfig));
     assert_eq!(zone.take(1).err(), Some(Error::CpuOut));
     assert_eq!(zone.take(3).err(), Some(Error::BadCpu));
     assert_eq!(cpu.mkdir("/a/b"), Err(Error::NoParent));

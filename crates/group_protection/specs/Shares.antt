@@ -3,8 +3,10 @@ use Rattle.std.specs.Prelude.{◌≡◌, ℕ, ◌+◌, ◌-◌, ◌*◌, ◌/◌
 use Rattle.std.specs.Prelude.{Bool, List, [], ◌∷◌, if◌then◌else◌, length, map, slice_index, sum}
 use Rattle.std.specs.List.{range_with_len}
 
--- what is shared out: how many pages the group of each number may give, and how many are wanted
+-- what is shared out: how many groups there may be, how many pages the group of each number may give, and how many are
+-- wanted
 pub record Sharing : Type 0 where
+  pub room : ℕ
   pub available : List ℕ
   pub want : ℕ
 

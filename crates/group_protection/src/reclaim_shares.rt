@@ -11,7 +11,9 @@ use std::marker::Model;
 /// then lack come from the groups with the greatest remainders, one each, and from the lower number among equals.
 #[derive(Debug, Drop)]
 pub struct Shares {
+    // By number; of numbers below `room` alone.
     available: [u32; MAX_GROUPS],
+    room: usize,
     want: u64,
     // What all groups may give.
     total: u64,
@@ -22,28 +24,30 @@ pub struct Shares {
 }
 
 impl Model for Shares {
-    ghost use Rattle.std.specs.Prelude.{◌≡◌, ℕ, ◌<◌, slice_index};
+    ghost use Rattle.std.specs.Prelude.{◌≡◌, ℕ, ◌<◌, ◌≤◌, slice_index};
     ghost use Rattle.group_tree.specs.Bounds.{most_groups};
     ghost use Rattle.group_protection.specs.Shares.{Sharing, pages_lacking, remainder, sum_below};
 
     ghost Value = { Sharing };
 
-    ghost view = { λ s. record { available = s.available; want = s.want } };
+    ghost view = { λ s. record { room = s.room; available = s.available; want = s.want } };
 
     ghost invariant = { λ s.
-        (s.total ≡ sum_below most_groups (slice_index s.available))
-        × ((group : ℕ) → group < most_groups
-        → slice_index s.remainders group ≡ remainder most_groups (slice_index s.available) s.want group)
-        × (s.lacking ≡ pages_lacking most_groups (slice_index s.available) s.want) };
+        (s.total ≡ sum_below s.room (slice_index s.available))
+        × ((group : ℕ) → group < s.room
+        → slice_index s.remainders group ≡ remainder s.room (slice_index s.available) s.want group)
+        × (s.lacking ≡ pages_lacking s.room (slice_index s.available) s.want)
+        × (s.room ≤ most_groups) };
 }
 
 // What all groups may give.
-fn total_of(available: &[u32; MAX_GROUPS]) -> u64
-    ensures { result ≡ sum_below most_groups (slice_index available.now) }
+fn total_of(available: &[u32; MAX_GROUPS], room: usize) -> u64
+    requires { room ≤ most_groups }
+    ensures { result ≡ sum_below room (slice_index available.now) }
 {
     let mut sum = 0;
-    for pages in available {
-        sum += u64::from(*pages);
+    for number in 0..room {
+        sum += u64::from(available[number]);
     }
     sum
 }
@@ -72,21 +76,26 @@ fn remainder(shared: u64, available: u32, total: u64) -> u64
 }
 
 impl Shares {
-    /// The shares if the group of each number may give `available` pages, and `want` pages are wanted of all together.
-    pub fn new(available: [u32; MAX_GROUPS], want: u64) -> Shares
+    /// The shares if the group of each number below `room` may give `available` pages, and `want` pages are wanted of all
+    /// together.
+    pub fn new(available: [u32; MAX_GROUPS], room: u32, want: u64) -> Shares
+        requires room { room ≤ most_groups }
+        ensures room { result.room ≡ room }
         ensures available { result.available ≡ available }
         ensures want { result.want ≡ want }
     {
-        let total = total_of(&available);
+        let room = room as usize;
+        let total = total_of(&available, room);
         let shared = want.min(total);
         let mut remainders = [0; MAX_GROUPS];
         let mut given = 0;
-        for number in 0..MAX_GROUPS {
+        for number in 0..room {
             given += whole_part(shared, available[number], total);
             remainders[number] = remainder(shared, available[number], total);
         }
         Shares {
             available,
+            room,
             want,
             total,
             remainders,
@@ -94,11 +103,20 @@ impl Shares {
         }
     }
 
+    // How many numbers groups may have.
+    fn room(&self) -> usize
+        ensures room { result ≡ self.now.room }
+        ensures most { result ≤ most_groups }
+    {
+        self.room
+    }
+
     // Whether the other group gives a page that lacks before this group does.
     fn is_ahead(&self, other: usize, group: usize) -> bool
-        requires { (other < most_groups) × (group < most_groups) }
-        ensures { result ≡ is_ahead most_groups (slice_index self.now.available) self.now.want other group }
+        requires { (other < self.now.room) × (group < self.now.room) }
+        ensures { result ≡ is_ahead self.now.room (slice_index self.now.available) self.now.want other group }
     {
+        let _room = self.room(); // Called for its contract.
         let theirs = self.remainders[other];
         let own = self.remainders[group];
         own < theirs || (theirs == own && other < group)
@@ -106,11 +124,11 @@ impl Shares {
 
     // How many groups do so.
     fn groups_ahead(&self, group: usize) -> u64
-        requires { group < most_groups }
-        ensures { result ≡ groups_ahead most_groups (slice_index self.now.available) self.now.want group }
+        requires { group < self.now.room }
+        ensures { result ≡ groups_ahead self.now.room (slice_index self.now.available) self.now.want group }
     {
         let mut ahead = 0;
-        for other in 0..MAX_GROUPS {
+        for other in 0..self.room() {
             ahead += u64::from(self.is_ahead(other, group));
         }
         ahead
@@ -118,8 +136,10 @@ impl Shares {
 
     /// The share of the group, in pages. It is at most what the group may give.
     pub fn share(&self, group: GroupId) -> u64
-        ensures { result ≡ reclaim_share most_groups (slice_index self.now.available) self.now.want group }
+        requires { group < self.now.room }
+        ensures { result ≡ reclaim_share self.now.room (slice_index self.now.available) self.now.want group }
     {
+        let _room = self.room(); // Called for its contract.
         let number = group.number() as usize;
         let shared = self.want.min(self.total);
         let part = whole_part(shared, self.available[number], self.total);

@@ -3,7 +3,7 @@ use Rattle.std.specs.Prelude.{ℕ}
 
 -- the most groups that a tree may have room for, the root included
 abbrev pub most_groups : ℕ
-most_groups = 64
+most_groups = 1024
 
 -- the most names of a path (Linux sets such a bound by cgroup.max.depth, cgroup-v2.rst)
 abbrev pub most_names : ℕ

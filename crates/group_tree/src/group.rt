@@ -7,12 +7,12 @@ use crate::path::PathText;
 use std::marker::Model;
 
 /// The most groups that a tree may have room for, the root included.
-pub const MAX_GROUPS: usize = 64;
+pub const MAX_GROUPS: usize = 1024;
 
-/// The number of a group, below [`MAX_GROUPS`]; the root has 0. It takes one byte because the record of each frame holds one.
+/// The number of a group, below [`MAX_GROUPS`]; the root has 0. It takes two bytes because the record of each frame holds one.
 #[derive(Clone, Copy, Debug, PartialEq, Eq, PartialOrd, Ord, Hash)]
 pub struct GroupId {
-    number: u8,
+    number: u16,
 }
 
 impl Model for GroupId {
@@ -36,7 +36,7 @@ impl GroupId {
     {
         if (number as usize) < MAX_GROUPS {
             Some(GroupId {
-                number: number as u8,
+                number: number as u16,
             })
         } else {
             None

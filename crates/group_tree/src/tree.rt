@@ -211,6 +211,17 @@ impl Tree {
         }
     }
 
+    /// How many groups may exist at once, the root included: 1 to [`MAX_GROUPS`]. Each group's number is below.
+    ///
+    /// [`MAX_GROUPS`]: crate::group::MAX_GROUPS
+    pub fn room(&self) -> u32
+        ensures room { result ≡ room_of self.now }
+        ensures most { result ≤ most_groups }
+    {
+        let _groups = self.groups(); // Called for its contract.
+        self.slots.len() as u32
+    }
+
     // Takes a number, because a `GroupId` is below `MAX_GROUPS`.
     fn is_taken(&self, number: u32) -> bool
         ensures { result ≡ has_group self.now number }

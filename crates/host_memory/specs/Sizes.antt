@@ -1,5 +1,5 @@
 -- The sizes that a host passes.
-use Rattle.std.specs.Prelude.{◌≡◌, ◌==◌, ◌||◌, Bool, true, max, nat_lt, not}
+use Rattle.std.specs.Prelude.{◌≡◌, ◌==◌, ◌||◌, Bool, true, if◌then◌else◌, max, nat_lt, not}
 use Rattle.zone_blocks.specs.declared.choices.Choices.{Choices}
 use Rattle.zone_blocks.specs.declared.config.Config.{Config}
 use Rattle.zone_blocks.specs.Config.{IsValidConfig, no_choices}
@@ -11,7 +11,7 @@ choices_of sizes = record {
   is_proportional = not (sizes.proportional == 0);
   is_no_kill = not (sizes.no_kill == 0);
   reclaim_batch = max sizes.reclaim_batch 1;
-  groups = no_choices.groups;
+  groups = if sizes.groups == 0 then no_choices.groups else sizes.groups;
 }
 
 -- each flag is 0 or 1

@@ -13,10 +13,11 @@ pub fn find_group(charges: &Charges, number: u32) -> Option<GroupId>
     ensures found { IfSome result (λ group. (group ≡ number) × IsTrue (has_group charges.now.groups group)) }
     ensures none { IfNone result (IsMissingIn charges.now.groups number) }
 {
+    let tree = charges.tree();
     let Some(group) = GroupId::of(number) else {
         return None;
     };
-    if !charges.tree().contains(group) {
+    if !tree.contains(group) {
         return None;
     }
     Some(group)

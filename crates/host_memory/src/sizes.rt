@@ -27,6 +27,8 @@ pub struct Sizes {
     pub no_kill: u32,
     /// 0, or 1: a reclaim begins with a pass of shares: each group gives pages in proportion to its clean pages.
     pub proportional: u32,
+    /// Groups that may exist at once, the root included: 0 to 1,024. 0 means 64.
+    pub groups: u32,
 }
 
 impl Sizes {
@@ -61,7 +63,11 @@ impl Sizes {
             is_proportional: self.proportional != 0,
             is_no_kill: self.no_kill != 0,
             reclaim_batch: self.reclaim_batch.max(1),
-            groups: Choices::NONE.groups,
+            groups: if self.groups == 0 {
+                Choices::NONE.groups
+            } else {
+                self.groups
+            },
         }
     }
 }

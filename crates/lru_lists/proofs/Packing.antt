@@ -9,11 +9,12 @@ use Rattle.std.proofs.lemmas.Option.{get_or_from_slice_get, slice_get_read}
 use Rattle.lru_lists.specs.declared.record.Link.{Link}
 use Rattle.lru_lists.specs.declared.packed.Packed.{Packed}
 use Rattle.lru_lists.specs.declared.packed.OnList.TheVariants.{Neither}
+use Rattle.lru_lists.specs.declared.packed.Flags.TheVariants.{Clean}
 use Rattle.lru_lists.specs.{link_at, nowhere, link_of, links_of, IsNumber}
 
 -- the packed record of a frame on no list
 abbrev pub packed_nowhere : Packed
-packed_nowhere = record { older = 0; newer = 0; owner = 0; list = Neither; is_marked = false; is_dirty = false }
+packed_nowhere = record { older = 0; newer = 0; owner = 0; list = Neither; flags = Clean }
 
 -- the record of a frame is the one that is packed there
 pub at_packed : (ps : List Packed) (i : ℕ) → link_at (links_of ps) i ≡ link_of (get_or ps i packed_nowhere)

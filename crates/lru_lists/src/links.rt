@@ -5,7 +5,7 @@ ghost use Rattle.lru_lists.specs.Queue.{link_at, units_of, list_without, AreNowh
 ghost use Rattle.lru_lists.specs.Queue.{newest_link, unlinked, nowhere, with_newer, with_older};
 ghost use Rattle.lru_lists.specs.Packed.{IsNumber};
 
-use crate::packed::{Packed, number};
+use crate::packed::{Flags, Packed, number};
 use crate::queue::{self, Queue};
 use crate::record::{Home, Link};
 use std::alloc::{AllocError, Global};
@@ -61,7 +61,7 @@ impl Links {
         requires { frame < length self.now }
         ensures { result ≡ (link_at self.now frame).is_dirty }
     {
-        self.records[frame as usize].is_dirty
+        self.records[frame as usize].flags.is_dirty()
     }
 
     // Appends a unit that is on no list at the newest end of this one, unmarked.
@@ -106,7 +106,8 @@ impl Links {
         requires { unit < length self.old }
         ensures { self.new ≡ slice_set self.old unit (record (link_at self.old unit) { is_marked = is_marked }) }
     {
-        self.records[unit as usize].is_marked = is_marked;
+        let record = &mut self.records[unit as usize];
+        record.flags = Flags::of(is_marked, record.flags.is_dirty());
     }
 
     // Sets whether a unit is dirty.
@@ -114,7 +115,8 @@ impl Links {
         requires { unit < length self.old }
         ensures { self.new ≡ slice_set self.old unit (record (link_at self.old unit) { is_dirty = is_dirty }) }
     {
-        self.records[unit as usize].is_dirty = is_dirty;
+        let record = &mut self.records[unit as usize];
+        record.flags = Flags::of(record.flags.is_marked(), is_dirty);
     }
 
     // The record of a frame, as a copy: a change of it is stored by `put`.

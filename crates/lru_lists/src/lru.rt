@@ -30,7 +30,7 @@ pub enum Touched {
 #[derive(Clone, Copy, PartialEq, Eq)]
 pub struct Lru {
     /// The number by which a frame's record names the owner.
-    pub owner: u8,
+    pub owner: u16,
     /// The inactive list.
     pub inactive: Queue,
     /// The active list.
@@ -40,7 +40,7 @@ pub struct Lru {
 impl Lru {
     /// The empty lists of an owner, linked through any records that name this owner nowhere. Such are the records
     /// from `Links::new`, and those from which each unit of the owner was removed.
-    pub fn new(owner: u8) -> Lru
+    pub fn new(owner: u16) -> Lru
         ensures owner { result.owner ≡ owner }
         ensures linked { (links : List Link) → HasNoUnits links owner → AreLinked links result }
         ensures empty { (links : List Link) (list : LruList) → entries_of links result list ≡ [] }

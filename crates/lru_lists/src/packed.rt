@@ -1,7 +1,7 @@
 //! The record of one frame as it is stored: in 12 bytes, less than half of what a `Link` takes.
 
 ghost use Rattle.std.specs.Prelude.{◌≡◌, ◌<◌, IfSome, Some};
-ghost use Rattle.lru_lists.specs.Packed.{neighbour_of, link_of, list_on, IsNumber};
+ghost use Rattle.lru_lists.specs.Packed.{neighbour_of, link_of, list_on, is_marked_by, is_dirty_by, IsNumber};
 
 use crate::record::{Home, Link, LruList};
 
@@ -20,6 +20,19 @@ pub enum OnList {
     Active,
 }
 
+/// Two flags of a unit in one byte: with two of `bool` the record would take 16 bytes.
+#[derive(Clone, Copy, PartialEq, Eq)]
+pub enum Flags {
+    /// Neither marked nor dirty.
+    Clean,
+    /// Touched once since it joined the inactive list.
+    Marked,
+    /// Its pages are dirty.
+    Dirty,
+    /// Both.
+    MarkedDirty,
+}
+
 /// The record of one frame, packed.
 #[derive(Clone, Copy, PartialEq, Eq)]
 pub struct Packed {
@@ -28,13 +41,11 @@ pub struct Packed {
     /// One more than the unit just after it on the list, or `NO_FRAME`.
     pub newer: u32,
     /// The owner of the list that holds the unit, if one does.
-    pub owner: u8,
+    pub owner: u16,
     /// Which of the owner's lists holds it.
     pub list: OnList,
-    /// Whether it was touched once since it joined the inactive list.
-    pub is_marked: bool,
-    /// Whether its pages are dirty.
-    pub is_dirty: bool,
+    /// Whether it was touched once since it joined the inactive list, and whether its pages are dirty.
+    pub flags: Flags,
 }
 
 impl OnList {
@@ -58,6 +69,44 @@ impl OnList {
             OnList::Neither => None,
             OnList::Inactive => Some(LruList::Inactive),
             OnList::Active => Some(LruList::Active),
+        }
+    }
+}
+
+impl Flags {
+    /// The variant for these two flags.
+    #[inline]
+    pub fn of(is_marked: bool, is_dirty: bool) -> Flags
+        ensures marked { is_marked_by result ≡ is_marked }
+        ensures dirty { is_dirty_by result ≡ is_dirty }
+    {
+        match (is_marked, is_dirty) {
+            (false, false) => Flags::Clean,
+            (true, false) => Flags::Marked,
+            (false, true) => Flags::Dirty,
+            (true, true) => Flags::MarkedDirty,
+        }
+    }
+
+    /// Whether the unit was touched once since it joined the inactive list.
+    #[inline]
+    pub fn is_marked(self) -> bool
+        ensures { result ≡ is_marked_by self }
+    {
+        match self {
+            Flags::Marked | Flags::MarkedDirty => true,
+            Flags::Clean | Flags::Dirty => false,
+        }
+    }
+
+    /// Whether the unit's pages are dirty.
+    #[inline]
+    pub fn is_dirty(self) -> bool
+        ensures { result ≡ is_dirty_by self }
+    {
+        match self {
+            Flags::Dirty | Flags::MarkedDirty => true,
+            Flags::Clean | Flags::Marked => false,
         }
     }
 }
@@ -93,8 +142,7 @@ impl Packed {
         newer: NO_FRAME,
         owner: 0,
         list: OnList::Neither,
-        is_marked: false,
-        is_dirty: false,
+        flags: Flags::Clean,
     };
 
     /// Packs a record.
@@ -113,8 +161,7 @@ impl Packed {
             newer: number(link.newer),
             owner,
             list,
-            is_marked: link.is_marked,
-            is_dirty: link.is_dirty,
+            flags: Flags::of(link.is_marked, link.is_dirty),
         }
     }
 
@@ -137,8 +184,8 @@ impl Packed {
             home: self.home(),
             older: unit(self.older),
             newer: unit(self.newer),
-            is_marked: self.is_marked,
-            is_dirty: self.is_dirty,
+            is_marked: self.flags.is_marked(),
+            is_dirty: self.flags.is_dirty(),
         }
     }
 }

@@ -13,7 +13,7 @@ pub enum LruList {
 #[derive(Clone, Copy, PartialEq, Eq)]
 pub struct Home {
     /// The number of the owner of both lists, such as a group's.
-    pub owner: u8,
+    pub owner: u16,
     /// Which of the owner's lists.
     pub list: LruList,
 }

@@ -156,9 +156,10 @@ impl Rows {
         ensures kept { result ≡ frames_kept self.now.tree (state_in self.now).phases self.now.frames group }
         ensures few { result ≤ most_groups * most_frames }
     {
+        let _groups = self.tree.groups(); // Called for its contract: no group's number is beyond the room.
         let mut sum = 0u128;
         let kept = self.phases.kept();
-        for number in 0..MAX_GROUPS as u32 {
+        for number in 0..self.tree.room() {
             sum += self.kept_in_subtree(kept, group, number);
         }
         sum
@@ -219,8 +220,9 @@ impl Rows {
         ensures pages { result ≡ pages_pending self.now.tree (state_in self.now).pending group }
         ensures few { result ≤ most_groups * 2 ^ 96 }
     {
+        let _groups = self.tree.groups(); // Called for its contract: no group's number is beyond the room.
         let mut sum = 0u128;
-        for number in 0..MAX_GROUPS as u32 {
+        for number in 0..self.tree.room() {
             sum += self.pending_in_subtree(group, number);
         }
         sum
@@ -231,7 +233,7 @@ impl Rows {
         requires fits { FitsZone self.now }
         requires bounded { IsBelowBounds (state_in self.now) }
         ensures usage { result ≡ usage_of (state_in self.now) group }
-        ensures few { result < 2 ^ 104 }
+        ensures few { result < 2 ^ 108 }
     {
         self.frames_kept(group) + self.pages_prepaid(group) + self.pages_pending(group)
     }

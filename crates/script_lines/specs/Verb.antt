@@ -3,7 +3,6 @@ use Rattle.std.specs.Prelude.{◌≡◌, ℕ, ◌^◌, ◌<◌, Bool, List, [], 
 use Rattle.std.specs.HashMap.{HashMap, get_by}
 use Rattle.std.specs.Map.{lookup}
 use Rattle.std.specs.Str.Parse.{IsNumeral, digits_value}
-use Rattle.group_tree.specs.Bounds.{most_groups}
 use Rattle.zone_blocks.specs.declared.config.Config.{Config}
 use Rattle.script_lines.specs.Names.{code_of}
 use Rattle.script_lines.specs.declared.line.Command.{Command}
@@ -100,10 +99,10 @@ pub record IsFrameText (sizes : Config) (frame : ℕ) (text : List ℕ) : Type 0
   pub writes : WritesNumber text frame
   pub in_zone : frame < sizes.frames
 
--- the number of a group, which needn't exist
-pub record IsGroupText (group : ℕ) (text : List ℕ) : Type 0 where
+-- a number that a group of the zone can have; the group needn't exist
+pub record IsGroupText (sizes : Config) (group : ℕ) (text : List ℕ) : Type 0 where
   pub writes : WritesNumber text group
-  pub low : group < most_groups
+  pub low : group < sizes.choices.groups
 
 -- `PATH` alone
 abbrev pub IsPath : List ℕ → List ℕ → Type 0
@@ -126,7 +125,7 @@ IsArguments sizes (Path path) text = IsPath path text
 IsArguments sizes (PathFile path file) text = IsReadText path file text
 IsArguments sizes (PathFileValue path file value) text = IsWriteText path file value text
 IsArguments sizes (PathOrder path order) text = IsAllocText path order text
-IsArguments sizes (Group group) text = IsGroupText group text
+IsArguments sizes (Group group) text = IsGroupText sizes group text
 IsArguments sizes (Frame frame) text = IsFrameText sizes frame text
 
 -- the text is this name, a space and these arguments; or the name alone

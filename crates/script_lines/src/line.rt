@@ -55,7 +55,8 @@ pub enum Command<'a> {
         path: &'a [u8],
         order: u32,
     },
-    /// Takes a frame from the CPU's list for the group of this number, 0 to 63, without the lock.
+    /// Takes a frame from the CPU's list for the group of this number, which is one that the zone has room for, without
+    /// the lock.
     Fast {
         group: u32,
     },

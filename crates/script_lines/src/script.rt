@@ -17,7 +17,6 @@ use crate::line::{Command, Line};
 use crate::number::{first_number, number};
 use crate::place::{near_place, path_end, place_by_one};
 use crate::verb::{ArgumentForm, Names, Verb, command_names, first_verb};
-use group_tree::group::MAX_GROUPS;
 use std::alloc::{AllocFailed, Global};
 use zone_blocks::config::Config;
 
@@ -29,11 +28,11 @@ pub const MAX_LINE: usize = 1_024;
 
 /// The lines of a script in their order, without the empty ones and those that begin with `#`, each with its number.
 ///
-/// Each line ends with a line feed, which the last may lack, and is `go` or `P COMMAND`. P is a CPU and a frame is one
-/// of the zone, by the configuration's sizes. A single space is between words and none at either end, except in the
-/// value of `write`, which is all that follows the space after the file's name. Any other line is a bad line. So is one
-/// longer than 1,024 bytes, a second `go`, and the line with the byte after the first 1,048,576. The fault names the
-/// first bad line.
+/// Each line ends with a line feed, which the last may lack, and is `go` or `P COMMAND`. By the configuration's sizes, P
+/// is a CPU, a frame is one of the zone, and a group's number is below the room for groups. A single space is between
+/// words and none at either end, except in the value of `write`, which is all that follows the space after the file's
+/// name. Any other line is a bad line. So is one longer than 1,024 bytes, a second `go`, and the line with the byte
+/// after the first 1,048,576. The fault names the first bad line.
 pub fn parse_script<'a>(
     alloc: Global,
     input: &'a [u8],
@@ -309,7 +308,7 @@ fn parse_arguments<'a>(
             Some(Command::Alloc { path, order })
         }
         Verb::Fast => {
-            let group = group_of(arguments)?;
+            let group = group_of(arguments, sizes)?;
             Some(Command::Fast { group })
         }
         Verb::Units => Some(Command::Units {
@@ -348,13 +347,14 @@ fn frame_of(text: &[u8], sizes: &Config) -> Option<u32>
     }
 }
 
-// The number of a group.
+// A number that a group of the zone can have.
 #[inline(always)]
-fn group_of(text: &[u8]) -> Option<u32>
-    ensures { MatchOption result ((group : ℕ) → ¬ IsGroupText group text.now) (λ group. IsGroupText group text.now) }
+fn group_of(text: &[u8], sizes: &Config) -> Option<u32>
+    ensures { MatchOption result ((group : ℕ) → ¬ IsGroupText sizes.now group text.now)
+        (λ group. IsGroupText sizes.now group text.now) }
 {
     let group = number(text)?;
-    if (group as usize) < MAX_GROUPS {
+    if group < sizes.choices.groups {
         Some(group)
     } else {
         None

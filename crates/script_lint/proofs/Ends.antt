@@ -278,7 +278,9 @@ example_is sizes counts v form.PathFileValue e =
 example_is sizes counts v form.PathOrder e =
     command_from sizes v (47 ∷ 32 ∷ 48 ∷ [])
     (PathOrder (47 ∷ []) 0, sym e, record { digits = 48 ∷ []; parts = refl; path_text = slash; writes = nought })
-example_is sizes counts v form.Group e = command_from sizes v (48 ∷ []) (Group 0, sym e, record { writes = nought; low = omega arith })
+example_is sizes counts v form.Group e =
+    let root = counts.groups_low in
+    command_from sizes v (48 ∷ []) (Group 0, sym e, record { writes = nought; low = omega arith })
 example_is sizes counts v form.Frame e =
     let some = counts.frames_low in
     command_from sizes v (48 ∷ []) (Frame 0, sym e, record { writes = nought; in_zone = omega arith })

@@ -9,12 +9,13 @@ use Rattle.script_lint.specs.declared.finding.Cause.{Cause}
 use Rattle.script_lint.specs.declared.finding.Cause.TheVariants.{InputTooLong, LineTooLong}
 use Rattle.script_lint.specs.declared.finding.Spot.{Spot}
 
--- there is a frame and a CPU, and no more of them than a zone may have
+-- there is a frame and a CPU, no more of them than a zone may have, and room for the root
 pub record HasValidCounts (sizes : Config) : Type 0 where
   pub frames_low : 1 ≤ sizes.frames
   pub frames_high : sizes.frames ≤ most_frames
   pub cpus_low : 1 ≤ sizes.cpus
   pub cpus_high : sizes.cpus ≤ most_cpus
+  pub groups_low : 1 ≤ sizes.choices.groups
 
 -- `P COMMAND`
 abbrev pub IsRequest : Config → List ℕ → Type 0

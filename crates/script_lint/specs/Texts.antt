@@ -53,6 +53,10 @@ zone_range_text frames =
     codes " is outside the zone (frames 0 to "
     ++ (decimal (frames - 1) ++ (codes " with --frames " ++ (decimal frames ++ codes ")")))
 
+-- which numbers groups can have
+abbrev pub group_range_text : ℕ → List ℕ
+group_range_text groups = codes " is outside 0 to " ++ decimal (groups - 1)
+
 -- why the line is bad
 abbrev pub cause_text : Config → Finding → Cause → List ℕ
 cause_text sizes f ByteOrderMark = codes "a UTF-8 byte order mark: a script is plain ASCII"
@@ -71,7 +75,7 @@ cause_text sizes f CarriageReturn = return_text (f.spot.place + 1 == length f.te
 cause_text sizes f NumberOutOfRange = codes "'"
     ++ (shown_word_text f ++ (codes "' isn't a number from 0 to 4294967295: " ++ form_text_of (verb_of f.text.now)))
 cause_text sizes f FrameOutOfZone = codes "frame " ++ (shown_word_text f ++ zone_range_text sizes.frames)
-cause_text sizes f GroupOutOfRange = codes "group " ++ shown_word_text f ++ codes " is outside 0 to 63"
+cause_text sizes f GroupOutOfRange = codes "group " ++ (shown_word_text f ++ group_range_text sizes.choices.groups)
 cause_text sizes f UnprintableByte = codes "byte " ++ decimal (byte_at f.text.now f.spot.place)
     ++ codes " isn't printable ASCII"
 cause_text sizes f LineTooLong = codes "the line has more than 1024 bytes"

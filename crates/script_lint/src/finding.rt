@@ -35,7 +35,7 @@ pub enum Cause {
     NumberOutOfRange,
     /// The zone has no frame of this number.
     FrameOutOfZone,
-    /// No group can have this number.
+    /// No group of the zone can have this number.
     GroupOutOfRange,
     /// A path or a file's name has a byte outside the printable ASCII.
     UnprintableByte,

@@ -10,7 +10,6 @@ ghost use Rattle.script_lint.specs.Refused.{AreRefused, numbered, refused_line_t
 
 use crate::past::Past;
 use crate::refusal::{Refusal, doubt_of, refusal_of};
-use group_tree::group::MAX_GROUPS;
 use group_tree::tree::Tree;
 use script_lines::line::{Command, Line};
 use script_lines::script::{MAX_LINE, first_line, first_line_past_limit, is_within, parse_line};
@@ -52,7 +51,7 @@ fn find_refused(
     ensures { IfOk result (λ refused. AreRefused sizes.now input.now refused.items) }
 {
     let over = first_line_past_limit(input);
-    let tree = Tree::new(alloc, MAX_GROUPS as u32 - 1)?;
+    let tree = Tree::new(alloc, 0)?;
     let mut past = Past::new(alloc);
     let mut refused = Vec::new(alloc);
     let mut number = 0;

@@ -6,7 +6,7 @@ ghost use Rattle.control_files.specs.Strings.{AddsBytes};
 ghost use Rattle.zone_blocks.specs.declared.config.Config.{Config};
 ghost use Rattle.script_lint.specs.Causes.{verb_of};
 ghost use Rattle.script_lint.specs.Forms.{form_text_of};
-ghost use Rattle.script_lint.specs.Texts.{IsInside, cause_text, cpus_text, default_text, finding_text, zone_range_text};
+ghost use Rattle.script_lint.specs.Texts.{IsInside, cause_text, cpus_text, default_text, finding_text, group_range_text, zone_range_text};
 ghost use Rattle.script_lint.specs.Texts.{given_text, names_text, near_text, shown, sizes_text, shown_word_text};
 ghost use Rattle.script_lint.specs.declared.finding.Cause.TheVariants.{CarriageReturn, FrameOutOfZone, GroupOutOfRange};
 ghost use Rattle.script_lint.specs.declared.finding.Cause.TheVariants.{NumberOutOfRange, CpuOutOfRange};
@@ -110,7 +110,7 @@ pub fn write_cause(
         Cause::CarriageReturn => write_return(finding, text),
         Cause::NumberOutOfRange => write_number(finding, text),
         Cause::FrameOutOfZone => write_frame(finding, sizes, text),
-        Cause::GroupOutOfRange => write_group(finding, text),
+        Cause::GroupOutOfRange => write_group(finding, sizes, text),
         Cause::UnprintableByte => write_byte(finding, text),
         Cause::LineTooLong => text.push_str("the line has more than 1024 bytes"),
         Cause::InputTooLong => text.push_str("the script has more than 1048576 bytes"),
@@ -239,13 +239,20 @@ fn write_frames(frames: u32, text: &mut String) -> Result<(), AllocError>
     )
 }
 
-fn write_group(finding: &Finding<'_>, text: &mut String) -> Result<(), AllocError>
+fn write_group(finding: &Finding<'_>, sizes: &Config, text: &mut String) -> Result<(), AllocError>
     requires { IsInside finding.now }
-    ensures { (sizes : Config) → AddsBytes result text.old text.new (cause_text sizes finding.now GroupOutOfRange) }
+    ensures { AddsBytes result text.old text.new (cause_text sizes.now finding.now GroupOutOfRange) }
 {
     text.push_str("group ")?;
     push_word(finding, text)?;
-    text.push_str(" is outside 0 to 63")
+    write_groups(sizes.choices.groups, text)
+}
+
+fn write_groups(groups: u32, text: &mut String) -> Result<(), AllocError>
+    ensures { AddsBytes result text.old text.new (group_range_text groups) }
+{
+    let last = groups.saturating_sub(1);
+    write!(text, " is outside 0 to {last}")
 }
 
 fn write_byte(finding: &Finding<'_>, text: &mut String) -> Result<(), AllocError>

@@ -14,8 +14,9 @@ use Rattle.group_tree.specs.Groups.{with_limit, with_oom_group, without_group, I
 use Rattle.group_tree.specs.Room.{PathHasRoom, IsLowestOver, has_room, fits_limit}
 use Rattle.step_rules.specs.{at_boot, is_of_group, IsLegalRun, small_zone, group_comes_and_goes, killed_group_ends, group_killed_whole}
 use Rattle.step_rules.specs.{group_dies_whole, stock_without_a_page, events_in, events_local_in, flag_given}
+use Rattle.step_rules.specs.Examples.{group_in_use, group_goes}
 use Rattle.step_rules.specs.State.{sum_to, all_to, boot_groups, boot_root}
-use Rattle.step_rules.proofs.SmallRuns.{legal_each, root_has_room, front_block}
+use Rattle.step_rules.proofs.SmallRuns.{allowed_both, legal_each, root_has_room, front_block}
 
 -- the root, a group with a limit, and one below it
 abbrev three : Option ℕ → List Group
@@ -93,7 +94,12 @@ none_free free e b small is =
 
 pub group_run_is_legal : IsLegalRun small_zone group_comes_and_goes
 unfolding has_group group_at sum_to all_to in_subtree path_of names_of number_at parent_path is_name is_well_formed make_fault room_of has_child with_limit without_group limit_of
-group_run_is_legal = legal_each (at_boot small_zone) group_comes_and_goes (search (rules, first_number, second_number, path_has_room, upper_is_over, front_block) depth 40)
+group_run_is_legal =
+    legal_each (at_boot small_zone) group_comes_and_goes (
+      allowed_both (at_boot small_zone) group_in_use group_goes
+      (search (rules, first_number, second_number, path_has_room, upper_is_over, front_block) depth 40)
+      (search (rules, first_number, second_number, path_has_room, upper_is_over, front_block) depth 40)
+    )
 
 not_group_5 : ◌≡◌ {A = Option ℕ} (Some 0) (Some 5) → ⊥
 not_group_5 same = true≢false (ap (λ o. is_of_group o 0) same)

@@ -7,6 +7,7 @@ use Rattle.group_tree.specs.declared.group.Group.{Group}
 use Rattle.group_tree.specs.declared.fault.Fault.{Fault}
 use Rattle.group_tree.specs.Groups.{has_group, has_child, in_subtree, make_fault, with_group, with_limit, with_oom_group, without_group, IsLeastFreeNumber, AreGroups}
 use Rattle.group_tree.proofs.GroupLemmas.{AreGroups-with, AreGroups-limited, AreGroups-flagged, AreGroups-without, CanMake, can_make, length-full}
+use Rattle.group_tree.proofs.GroupLemmas.{room_of-with, room_of-without, room_of-limited, room_of-flagged}
 use Rattle.group_tree.proofs.CallerLemmas.{has_group-with_kept, has_group-limited, has_group-flagged, has_group-without, in_subtree-refl}
 use Rattle.group_tree.proofs.CallerLemmas.{number_below}
 use Rattle.group_tree.specs.{most_groups, is_there, is_in_subtree, room_of}
@@ -42,11 +43,12 @@ module _ {zone : Zone} {hold : Hold} {groups : List Group} {phases : ℕ → Pha
   homes_hold : (later : Hold) → ((q : ℕ) → holds_lock q later ≡ true → is_cpu zone q ≡ true) → ((q : ℕ) → visits q later ≡ false → told_pages (parts q) ≡ 0) →
       Homes zone later groups phases parts pending
   homes_hold later holder quiet =
-      record { tree = h.tree; frames = h.frames; stocks = h.stocks; beyond = h.beyond; pages = h.pages; holder = holder; quiet = quiet }
+      record { tree = h.tree; room = h.room; frames = h.frames; stocks = h.stocks; beyond = h.beyond; pages = h.pages; holder = holder; quiet = quiet }
 
   homes_phase : (f : ℕ) (y : Phase) → is_there groups (keeper_of y) ≡ true → Homes zone hold groups (with_at phases f y) parts pending
   homes_phase f y there = record {
     tree = h.tree;
+    room = h.room;
     frames = at_each phases f y (λ n x. is_there groups (keeper_of x) ≡ true) there (λ n ne. h.frames n);
     stocks = h.stocks;
     beyond = h.beyond;
@@ -56,12 +58,13 @@ module _ {zone : Zone} {hold : Hold} {groups : List Group} {phases : ℕ → Pha
   }
 
   homes_phases : (later : ℕ → Phase) → ((f : ℕ) → is_there groups (keeper_of (later f)) ≡ true) → Homes zone hold groups later parts pending
-  homes_phases later there = record { tree = h.tree; frames = there; stocks = h.stocks; beyond = h.beyond; pages = h.pages; holder = h.holder; quiet = h.quiet }
+  homes_phases later there = record { tree = h.tree; room = h.room; frames = there; stocks = h.stocks; beyond = h.beyond; pages = h.pages; holder = h.holder; quiet = h.quiet }
 
   homes_part : (p : ℕ) (part : Part) → (1 ≤ part.stock.pages → some_there groups part.stock.group ≡ true) → (is_cpu zone p ≡ false → part.stock.pages ≡ 0) →
       (visits p hold ≡ false → told_pages part ≡ 0) → Homes zone hold groups phases (with_at parts p part) pending
   homes_part p part stock beyond quiet = record {
     tree = h.tree;
+    room = h.room;
     frames = h.frames;
     stocks = at_each parts p part (λ n x. 1 ≤ x.stock.pages → some_there groups x.stock.group ≡ true) stock (λ n ne. h.stocks n);
     beyond = at_each parts p part (λ n x. is_cpu zone n ≡ false → x.stock.pages ≡ 0) beyond (λ n ne. h.beyond n);
@@ -73,6 +76,7 @@ module _ {zone : Zone} {hold : Hold} {groups : List Group} {phases : ℕ → Pha
   homes_pending : (later : ℕ → ℕ) → ((g : ℕ) → has_group groups g ≡ false → later g ≡ 0) → Homes zone hold groups phases parts later
   homes_pending later pages = record {
     tree = h.tree;
+    room = h.room;
     frames = h.frames;
     stocks = h.stocks;
     beyond = h.beyond;
@@ -158,6 +162,7 @@ gone_keeps : {zone : Zone} {hold : Hold} {phases : ℕ → Phase} {parts : ℕ �
     Homes zone hold (without_group groups g) phases parts pending
 gone_keeps {zone} {hold} {phases} {parts} {pending} groups g h there none leaf below outside = record {
   tree = AreGroups-without groups g h.tree leaf below;
+  room = λ some few. room_of-without groups g below ∙ h.room some few;
   frames = λ f. frame f (keeper_of (phases f)) refl;
   stocks = λ q some. stock q some (parts q).stock.group refl;
   beyond = h.beyond;
@@ -194,10 +199,11 @@ gone_keeps {zone} {hold} {phases} {parts} {pending} groups g h there none leaf b
 
 -- one group more, or another limit: who is there stays there
 more_keeps : {zone : Zone} {hold : Hold} {phases : ℕ → Phase} {parts : ℕ → Part} {pending : ℕ → ℕ} (groups later : List Group) →
-    Homes zone hold groups phases parts pending → AreGroups later → ((g : ℕ) → has_group groups g ≡ true → has_group later g ≡ true) →
-    Homes zone hold later phases parts pending
-more_keeps {phases = phases} {parts = parts} groups later h tree stays = record {
+    Homes zone hold groups phases parts pending → AreGroups later → room_of later ≡ room_of groups →
+    ((g : ℕ) → has_group groups g ≡ true → has_group later g ≡ true) → Homes zone hold later phases parts pending
+more_keeps {phases = phases} {parts = parts} groups later h tree room stays = record {
   tree = tree;
+  room = λ some few. room ∙ h.room some few;
   frames = λ f. frame (keeper_of (phases f)) (h.frames f);
   stocks = λ q some. stock (parts q).stock.group (h.stocks q some);
   beyond = h.beyond;
@@ -352,17 +358,18 @@ homes_step s seat (Return f) Done sound h legal ok counted = homes_phases h _ (�
     back_home x true = refl
     back_home x false = h.frames x
 homes_step s seat (SetMax g limit) Done sound h legal ok counted =
-    more_keeps s.groups (with_limit s.groups g limit) h (AreGroups-limited s.groups g limit h.tree) (λ k there. has_group-limited s.groups g k limit ∙ there)
+    more_keeps s.groups (with_limit s.groups g limit) h (AreGroups-limited s.groups g limit h.tree)
+    (room_of-limited s.groups g limit) (λ k there. has_group-limited s.groups g k limit ∙ there)
 homes_step s seat (SetFlag g flag) Done sound h legal ok counted =
     let inner : not (g == 0) ≡ true = (set_flag_tests s seat g flag legal).2 in
     more_keeps s.groups (with_oom_group s.groups g flag) h
     (AreGroups-flagged s.groups g flag h.tree (λ e. true≢false (sym inner ∙ ap not (eq-eqb g 0 e))))
-    (λ k there. has_group-flagged s.groups g k flag ∙ there)
+    (room_of-flagged s.groups g flag) (λ k there. has_group-flagged s.groups g k flag ∙ there)
 homes_step s seat (Make path) (Number n) sound h legal ok counted =
     let none : is_none (make_fault s.groups path) ≡ true = (make_tests s seat path legal).1 in
     let can = making s path h none in
     more_keeps s.groups (with_group s.groups n path) h (AreGroups-with s.groups n path h.tree can (new_low s.groups path n can ok) ok.free)
-    (λ k there. has_group-with_kept s.groups n k path ok.free there)
+    (room_of-with s.groups n path) (λ k there. has_group-with_kept s.groups n k path ok.free there)
 homes_step s seat (Remove g) Done sound h legal ok counted =
     let may : is_removable s g ≡ true = (remove_tests s seat g legal).1 in
     let there : has_group s.groups g ≡ true = (removable_tests s g may).0 in

@@ -3,7 +3,7 @@
 use Rattle.std.proofs.Common.{◌≡◌, ℕ, ◌+◌, ◌-◌, ◌<◌, ◌==◌, true, Some, refl, sym, ◌∙◌, ap, subst, arith, inl, inr, min}
 use Rattle.std.proofs.lemmas.Bool.{cases_Bool, cases_lt, false≢true}
 use Rattle.group_tree.specs.Groups.{has_group}
-use Rattle.group_tree.proofs.GroupLemmas.{AreGroups-initial}
+use Rattle.group_tree.proofs.GroupLemmas.{AreGroups-initial, room_of-initial}
 use Rattle.group_tree.proofs.AncestorLemmas.{parent_of-there}
 use Rattle.group_tree.specs.{most_groups, is_there}
 use Rattle.step_rules.specs.declared.phase.Stage.TheVariants.{FreshAt}
@@ -33,6 +33,7 @@ homes_allowed s seat action answer sound h ok =
 pub homes_boot : (zone : Zone) → IsHomed (at_boot zone)
 homes_boot zone = record {
   tree = AreGroups-initial (min zone.groups most_groups - 1) (omega arith);
+  room = λ some few. room_of-initial (min zone.groups most_groups - 1) ∙ omega arith;
   frames = λ f. refl;
   stocks = λ q some. absurd (omega arith);
   beyond = λ q other. refl;
@@ -94,6 +95,7 @@ keepers_are_there zone run legal =
     let h = both.1 in
     record {
       groups = h.tree;
+      room = h.room;
       numbers = λ g there. number_low s.groups g h.tree there;
       parents = λ g k e. parent_of-there s.groups g k h.tree e;
       frames = λ f g e. sym (ap (is_there s.groups) e) ∙ h.frames f;

@@ -1,6 +1,6 @@
 -- The small runs are legal, each step in turn.
-use Rattle.std.proofs.Common.{◌≡◌, ℕ, Bool, true, false, List, [], ◌∷◌, ◌==◌, length, refl, sym, ap, subst, arith, rules, inl, inr, zero, suc}
-use Rattle.std.specs.List.{slice_index_or}
+use Rattle.std.proofs.Common.{◌≡◌, ℕ, Bool, true, false, List, [], ◌∷◌, ◌++◌, ◌==◌, length, refl, sym, ap, subst, arith, rules, inl, inr, zero, suc}
+use Rattle.std.specs.List.{fold, slice_index_or}
 use Rattle.std.proofs.lemmas.Bool.{cases_eq, ne_eqb, true≢false}
 use Rattle.zone_blocks.specs.Areas.{IsFreeBlock}
 use Rattle.group_tree.specs.Path.{names_of}
@@ -21,6 +21,10 @@ pub legal_each : (s : State) (run : Run) → AreAllowed s run → IsLegalFrom s 
 legal_each s [] each k = tt
 legal_each s (e ∷ run) each zero = each.0
 legal_each s (e ∷ run) each (suc k) = legal_each (next s e) run each.1 k
+
+pub allowed_both : (s : State) (run later : Run) → AreAllowed s run → AreAllowed (fold next s run) later → AreAllowed s (run ++ later)
+allowed_both s [] later each then = then
+allowed_both s (e ∷ run) later each then = (each.0, allowed_both (next s e) run later each.1 then)
 
 -- the root has no limit
 pub root_has_room : (usage : ℕ → ℕ) (n : ℕ) → PathHasRoom (boot_groups small_zone) usage 0 n

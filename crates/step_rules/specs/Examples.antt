@@ -108,12 +108,16 @@ group_in_use =
 
 -- A group isn't removed while it has a child or usage. The lower one is killed, its frame is returned all the same, and
 -- the group is removed. A new one gets its number, not killed, and is below the same limit.
-abbrev pub group_comes_and_goes : Run
-group_comes_and_goes =
-    group_in_use ++ zone_makes (Remove 1) Illegal ∷ zone_makes (Remove 2) Illegal ∷ zone_makes (Note Oom 2) Done
+abbrev pub group_goes : Run
+group_goes =
+    zone_makes (Remove 1) Illegal ∷ zone_makes (Remove 2) Illegal ∷ zone_makes (Note Oom 2) Done
     ∷ zone_makes (Kill 2) Done ∷ zone_makes (Freeze 0 1) Done ∷ zone_makes (Return 0) Done ∷ zone_makes (Remove 2) Done
     ∷ zone_makes (Make (codes "/a/b")) (Number 2) ∷ zone_makes (Note Max 2) Done ∷ zone_makes (Grant 2 1) (Over 1)
     ∷ cpu_makes 1 Unlock Done ∷ []
+
+-- the two, one after the other
+abbrev pub group_comes_and_goes : Run
+group_comes_and_goes = group_in_use ++ group_goes
 
 -- Two pages are granted to a group, and it is killed. It gets no more pages, but of these one is placed and one
 -- ungranted. Events are noted at it, its limit is set, its frame is published and returned. A group is made below it

@@ -11,7 +11,7 @@ use Rattle.step_rules.specs.declared.phase.Stage.TheVariants.{FreshAt}
 use Rattle.step_rules.specs.declared.phase.Phase.{Phase}
 use Rattle.step_rules.specs.declared.phase.Phase.TheVariants.{Head, Tail}
 use Rattle.step_rules.specs.Phases.{Kind, is_free, is_live_phase, keeper_of, has_as, passes_out, passes_back, unit_of}
-use Rattle.step_rules.specs.State.{Zone, Part, State, one_if, times, frames_of, is_cpu, visits}
+use Rattle.step_rules.specs.State.{Zone, Part, State, HasRoom, one_if, times, frames_of, is_cpu, visits}
 use Rattle.step_rules.specs.Views.{holds_lock}
 
 -- the CPU paid for the unit, a frame, from a stock of the unit's group
@@ -73,9 +73,11 @@ some_there groups (Some g) = has_group groups g
 abbrev pub told_pages : Part → ℕ
 told_pages part = part.unreported + part.reported
 
--- the groups are a tree, each that keeps a frame or a page is there, and only a visit has pages that aren't absorbed
+-- the groups are a tree with the zone's room, each that keeps a frame or a page is there, and only a visit has pages that
+-- aren't absorbed
 pub record Homes (zone : Zone) (hold : Hold) (groups : List Group) (phases : ℕ → Phase) (parts : ℕ → Part) (pending : ℕ → ℕ) : Type 0 where
   pub tree : AreGroups groups
+  pub room : HasRoom zone groups
   pub frames : (f : ℕ) → is_there groups (keeper_of (phases f)) ≡ true
   pub stocks : (q : ℕ) → 1 ≤ (parts q).stock.pages → some_there groups (parts q).stock.group ≡ true
   pub beyond : (q : ℕ) → is_cpu zone q ≡ false → (parts q).stock.pages ≡ 0

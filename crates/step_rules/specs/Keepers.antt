@@ -2,7 +2,7 @@
 use Rattle.std.specs.Prelude.{◌≡◌, ℕ, ◌+◌, ◌<◌, ◌≤◌, true, false, Some, None}
 use Rattle.group_tree.specs.{most_groups, has_group, parent_of, AreGroups}
 use Rattle.step_rules.specs.Phases.{keeper_of}
-use Rattle.step_rules.specs.State.{Zone, State, is_cpu, visits}
+use Rattle.step_rules.specs.State.{Zone, State, HasRoom, is_cpu, visits}
 use Rattle.step_rules.specs.Legal.{no_page_pends}
 use Rattle.step_rules.specs.After.{Run, state_of, IsLegalRun}
 use Rattle.step_rules.specs.Views.{holds_lock}
@@ -22,10 +22,12 @@ pub record StockIsKept (s : State) (cpu : ℕ) : Type 0 where
   pub unreported : visits cpu s.hold ≡ false → (s.parts cpu).unreported ≡ 0
   pub reported : visits cpu s.hold ≡ false → (s.parts cpu).reported ≡ 0
 
--- The groups are those of a tree, with numbers below `most_groups`. Each that keeps a frame or a page, or has children,
--- exists, killed or not. If no number below that has pending pages, no number has. The holder of the lock is a CPU.
+-- The groups are those of a tree with the zone's room, so that there are never more, with numbers below `most_groups`.
+-- Each that keeps a frame or a page, or has children, exists, killed or not. If no number below that has pending pages, no
+-- number has. The holder of the lock is a CPU.
 pub record KeepersAreThere (s : State) : Type 0 where
   pub groups : AreGroups s.groups
+  pub room : HasRoom s.zone s.groups
   pub numbers : (g : ℕ) → has_group s.groups g ≡ true → g < most_groups
   pub parents : (g h : ℕ) → parent_of s.groups g ≡ Some h → has_group s.groups h ≡ true
   pub frames : (f g : ℕ) → keeper_of (s.phases f) ≡ Some g → has_group s.groups g ≡ true

@@ -34,7 +34,7 @@ pub use Rattle.step_rules.specs.Phases.{Kind, at_stage, collected, has_as, has_s
 pub use Rattle.step_rules.specs.Phases.{is_passing, is_returnable, is_returning, is_stage_in_hand, is_stage_passing, is_stage_returnable, keeper_of}
 pub use Rattle.step_rules.specs.Phases.{passed_back, passes_back, passes_out, stage_after_last, stage_collected, stage_passed_back, stage_passes_back}
 pub use Rattle.step_rules.specs.Phases.{unit_of}
-pub use Rattle.step_rules.specs.State.{Part, PartStock, Zone, all_to, at_boot, frames_of, free_in, front_of, is_cpu, is_frame, is_held_by, is_unheld}
+pub use Rattle.step_rules.specs.State.{HasRoom, Part, PartStock, Zone, all_to, at_boot, frames_of, free_in, front_of, is_cpu, is_frame, is_held_by, is_unheld}
 pub use Rattle.step_rules.specs.State.{most_fresh, most_pins, most_references}
 pub use Rattle.step_rules.specs.State.{live_references, may_zone_act, no_part, one_if, pins_of, sum_to, times, visits, with_at, with_last, without}
 pub use Rattle.step_rules.specs.Usage.{frames_kept, pages_pending, pages_prepaid, stock_in_subtree, usage_of}

@@ -1,10 +1,10 @@
 -- The state after a list of steps.
-use Rattle.std.specs.Prelude.{ℕ, ◌+◌, ◌-◌, ◌==◌, ◌&&◌, ◌++◌, not, nat_le, nat_lt, zero, suc, Bool, true, false, Option, None, min}
+use Rattle.std.specs.Prelude.{◌≡◌, ℕ, ◌+◌, ◌-◌, ◌≤◌, ◌==◌, ◌&&◌, ◌++◌, not, nat_le, nat_lt, zero, suc, Bool, true, false, Option, None, min}
 use Rattle.std.specs.Prelude.{List, [], ◌∷◌, map, filter, if◌then◌else◌}
 use Rattle.std.specs.List.{range_with_len, slice_index_or}
 use Rattle.group_tree.specs.declared.group.Group.{Group}
 use Rattle.group_tree.specs.Bounds.{most_groups}
-use Rattle.group_tree.specs.Groups.{the_root}
+use Rattle.group_tree.specs.Groups.{the_root, room_of}
 use Rattle.step_rules.specs.declared.phase.Hold.{Hold}
 use Rattle.step_rules.specs.declared.phase.Hold.TheVariants.{Unheld, HeldBy, Visiting}
 use Rattle.step_rules.specs.declared.phase.Phase.{Phase}
@@ -74,6 +74,10 @@ boot_root zone = the_root (min zone.groups most_groups - 1)
 -- the groups at boot: the root alone
 abbrev pub boot_groups : Zone → List Group
 boot_groups zone = boot_root zone ∷ []
+
+-- the tree has room for as many groups as the zone, which has room for 1 to `most_groups`
+abbrev pub HasRoom : Zone → List Group → Type 0
+HasRoom zone groups = 1 ≤ zone.groups → zone.groups ≤ most_groups → room_of groups ≡ zone.groups
 
 -- at boot the lock and each frame are free, the root is the only group, and nothing is referred to, lent or pending
 abbrev pub at_boot : Zone → State

@@ -97,7 +97,8 @@ pub fn nothing_pends_while_the_lock_is_free()
     ensures { NothingPendsWhileTheLockIsFree }
 {}
 
-/// After every legal run the groups are those of a tree, with numbers below `MAX_GROUPS`. Each that keeps a frame, has
+/// After every legal run the groups are those of a tree that has room for as many as the zone, with numbers below
+/// `MAX_GROUPS`. Each that keeps a frame, has
 /// pages in a stock or pending, or has children exists, killed or not. The holder of the lock is a CPU.
 pub fn keepers_are_there()
     ensures { AllKeepersAreThere }

@@ -15,7 +15,7 @@ pub struct Choices {
     /// The fewest pages that a round of reclaim wants if a limit has no room for a charge: 1 to 64. Linux wants 32
     /// (`SWAP_CLUSTER_MAX`).
     pub reclaim_batch: u32,
-    /// How many groups may exist at once, the root included: 1 to 64.
+    /// How many groups may exist at once, the root included: 1 to 1,024.
     pub groups: u32,
 }
 

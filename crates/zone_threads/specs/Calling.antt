@@ -5,7 +5,7 @@ use Rattle.frame_word.specs.declared.answers.Get.{Get}
 use Rattle.frame_word.specs.declared.answers.Get.TheVariants.{Full, Held, Raced, Zero}
 use Rattle.frame_word.specs.declared.answers.Put.{Put}
 use Rattle.zone_blocks.specs.declared.config.Config.{Config}
-use Rattle.group_tree.specs.{most_groups, has_group, limit_of}
+use Rattle.group_tree.specs.{has_group, limit_of}
 use Rattle.group_tree.specs.declared.fault.Fault.TheVariants.{BadLimit, BadOrder, NoFile, NotPinned, PinsFull}
 use Rattle.group_charge.specs.Charges.{Ledger, current_of, peak_of, settings_of}
 use Rattle.host_memory.specs.{IsMissingIn}
@@ -237,10 +237,10 @@ abbrev pub IfMissing : KnownTable → (group : ℕ) → Missed → (from to : Kn
 IfMissing frames group missed.NoGroup from to = UnderLock (NoGroupBehind frames group) from to
 IfMissing frames group missed.Busy from to = to ≡ from
 
--- a frame was asked for a number that no group has
+-- A frame was asked for a number that no group has. A number for which the zone has no room is refused at once.
 abbrev pub MissesGroup : KnownTable → (group : ℕ) → (from to : KnownHome) → Type 0
 MissesGroup frames group from to =
-    ((most_groups ≤ group) × (to ≡ from))
+    ((from.sizes.choices.groups ≤ group) × (to ≡ from))
     ⊎ Then (OnCpu (MissesFast group)) (UnderLock (NoGroupBehind frames group)) from to
 
 -- What each call does, by its answer. The CPU's past of the run grows by the steps of a fast call, then by those of a
@@ -253,7 +253,7 @@ Calls frames (call.Visit asked) from to answer.NoFrame = (¬ IsOfZone frames ask
 Calls frames (call.Visit asked) from to (answer.Served outcome) =
     UnderLock (ServesBehind frames (ServesText frames asked outcome)) from to
 Calls frames (call.AllocFrame group) from to answer.Busy =
-    (group < most_groups) × OnCpu (MissesFast group) from to
+    (group < from.sizes.choices.groups) × OnCpu (MissesFast group) from to
 Calls frames (call.AllocFrame group) from to answer.NoGroup = MissesGroup frames group from to
 Calls frames (call.AllocFrame group) from to (answer.Taken frame) =
     OnCpu (AllocsFast group (Got frame)) from to

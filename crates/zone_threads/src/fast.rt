@@ -1,9 +1,8 @@
 //! The calls that take no lock, or only if the CPU's list and stock can't serve. Nothing here has a way to the lock's cell.
 
-ghost use Rattle.std.specs.Prelude.{◌<◌, IfNone, IfSome, IsSome, MatchBool};
+ghost use Rattle.std.specs.Prelude.{IfNone, IfSome, IsSome, MatchBool};
 ghost use Rattle.cpu_part.specs.declared.answers.Dropped.TheVariants.{Listed};
 ghost use Rattle.cpu_part.specs.declared.answers.Fast.TheVariants.{Got};
-ghost use Rattle.group_tree.specs.{most_groups};
 ghost use Rattle.zone_threads.specs.Calling.{AllocsFast, Calls, CallsGet, CallsPut, DropsFast, MissesDrop, MissesFast};
 ghost use Rattle.zone_threads.specs.declared.calls.Call.TheVariants as call;
 
@@ -13,7 +12,6 @@ use crate::served::Missed;
 use cpu_part::{BootName, Dropped, Fast, Tables};
 use frame_word::Frame;
 use group_tree::fault::Fault;
-use group_tree::group::MAX_GROUPS;
 use mem_system::{Cpu, TextCommand};
 
 impl<N: BootName> Home<N> {
@@ -23,10 +21,10 @@ impl<N: BootName> Home<N> {
         requires some { IsSome self.old.cpu }
         ensures { Calls N.table (call.AllocFrame group) self.old self.new result }
     {
-        if group >= MAX_GROUPS as u32 {
+        let zone = &*self.zone;
+        if group >= zone.sizes.choices.groups {
             return CallAnswer::NoGroup;
         }
-        let zone = &*self.zone;
         let Some(cpu) = &mut self.cpu else {
             unreachable!()
         };
@@ -90,7 +88,6 @@ impl<N: BootName> Home<N> {
 // Takes a frame of the CPU's list, paid from its stock; `None` if one of them has none.
 #[inline(always)]
 fn take_listed<N: BootName>(tables: &Tables<N>, cpu: &mut Cpu<N>, group: u32) -> Option<Frame>
-    requires group { group < most_groups }
     ensures taken { IfSome result (λ frame. AllocsFast group (Got frame) cpu.old cpu.new) }
     ensures missed { IfNone result (MissesFast group cpu.old cpu.new) }
 {

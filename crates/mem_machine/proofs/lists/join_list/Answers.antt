@@ -5,8 +5,7 @@ use Rattle.mem_machine.proofs.lists.join_list.Goals as goal
 pub returns : goal.returns
 returns c =
     let a = c.add.ensures in
-    let all = join_all c.args.links.now c.args.lists.now.items c.args.group c.args.head _ c.number-owner.ensures.value c.number-owner.ensures.below
-    c.requires.lists.groups c.requires.lists.stand _ _ c.index.ensures _ _
+    let all = join_all c.args.links.now c.args.lists.now.items c.args.group c.args.head _ c.number-owner.ensures.value c.requires.list c.requires.lists _ _ c.index.ensures _ _
     (record { stands = a.linked; owner = a.owner; inactive = a.inactive; active = a.active; changes = a.others; moves = a.moves; joined = a.joined })
     c.others_stay_linked.ensures c.one_of_all_changes.ensures in
-    record { joins = all.joins; lists = record { groups = all.groups; stand = all.stand }; frames = search rules; used = a.used; dirt = a.dirt; clean = search rules }
+    record { joins = all.joins; lists = all.stand; groups = all.groups; frames = search rules; used = a.used; dirt = a.dirt; clean = search rules }

@@ -7,8 +7,10 @@ returns c = record {
   frame_states = c.in_ok-zone.ensures.frame_states;
   frames = c.in_ok-zone.ensures.frames;
   nowhere = c.in_ok-zone.ensures.nowhere;
-  charges = c.in_ok-charges.ensures.charges;
-  lists = c.in_ok-charges.ensures.lists;
-  killed = c.in_ok-charges.ensures.killed;
+  charges = c.in_ok-charges.ensures;
+  lists = c.in_ok-lists.ensures.lists;
+  clean = c.in_ok-lists.ensures.clean;
+  sums = c.in_ok-lists.ensures.sums;
+  killed = c.in_ok-lists.ensures.killed;
   notes = c.in_ok-notes.ensures;
 }

@@ -2,7 +2,6 @@ use Rattle.std.proofs.Common.{◌≡◌, ℕ, ◌-◌, sym, ap, ◌∙◌, arith
 use Rattle.std.specs.Prelude.{min}
 use Rattle.std.proofs.lemmas.List.{length-set}
 use Rattle.std.proofs.lemmas.List.Edits.{fill_by_more}
-use Rattle.group_tree.specs.Bounds.{most_groups}
 use Rattle.group_protection.specs.Shares.{pages_lacking, remainder, sum_below, whole_part}
 use Rattle.group_protection.proofs.Parting.{parts_fit, remainder_is, whole_part_is}
 use Rattle.group_protection.proofs.SumsBelow.{sum_below_more, sum_below_none}
@@ -11,16 +10,16 @@ use Rattle.group_protection.proofs.reclaim_shares.Shares.new.Goals as goal
 pub loop-number-init : goal.loop-number-init
 loop-number-init c = record {
   long = search rules;
-  given = sym (sum_below_none (whole_part most_groups (slice_index c.args.available) c.args.want));
+  given = sym (sum_below_none (whole_part c.args.room (slice_index c.args.available) c.args.want));
   few = omega arith;
   kept = λ group less. absurd (omega (arith, less));
 }
 
 pub loop-number-preserved : goal.loop-number-preserved
 loop-number-preserved c =
-    let more = sum_below_more c.loop-number.number (whole_part most_groups (slice_index c.args.available) c.args.want) in
-    let part = c.whole_part-given.ensures.part ∙ whole_part_is most_groups (slice_index c.args.available) c.args.want _ _ c.loop-number.number c.total_of-total.ensures c.min-shared.ensures in
-    let rest = c.remainder.ensures ∙ remainder_is most_groups (slice_index c.args.available) c.args.want _ _ c.loop-number.number c.total_of-total.ensures c.min-shared.ensures in
+    let more = sum_below_more c.loop-number.number (whole_part c.args.room (slice_index c.args.available) c.args.want) in
+    let part = c.whole_part-given.ensures.part ∙ whole_part_is c.args.room (slice_index c.args.available) c.args.want _ _ c.loop-number.number c.total_of-total.ensures c.min-shared.ensures in
+    let rest = c.remainder.ensures ∙ remainder_is c.args.room (slice_index c.args.available) c.args.want _ _ c.loop-number.number c.total_of-total.ensures c.min-shared.ensures in
     let so = c.loop-number.invariant.given in
     let few = c.loop-number.invariant.few in
     let low = c.whole_part-given.ensures.at_most in
@@ -32,24 +31,25 @@ loop-number-preserved c =
       few = omega (arith, few, low, fits);
       kept = λ group less.
           ap (λ (x : ℕ). slice_index (set c.loop-number.remainders c.loop-number.number x) group) rest
-          ∙ fill_by_more (remainder most_groups (slice_index c.args.available) c.args.want) c.loop-number.remainders c.loop-number.number 0 (omega (arith, long)) c.loop-number.invariant.kept group less;
+          ∙ fill_by_more (remainder c.args.room (slice_index c.args.available) c.args.want) c.loop-number.remainders c.loop-number.number 0 (omega (arith, long)) c.loop-number.invariant.kept group less;
     }
 
 pub overflow_sub-result : goal.overflow_sub-result
 overflow_sub-result c =
-    let end : c.loop-number.number ≡ most_groups = omega arith in
-    let so = c.loop-number.invariant.given ∙ ap (λ n. sum_below n (whole_part most_groups (slice_index c.args.available) c.args.want)) end in
-    let fit = parts_fit most_groups (slice_index c.args.available) c.args.want in
+    let end : c.loop-number.number ≡ c.args.room = omega arith in
+    let so = c.loop-number.invariant.given ∙ ap (λ n. sum_below n (whole_part c.args.room (slice_index c.args.available) c.args.want)) end in
+    let fit = parts_fit c.args.room (slice_index c.args.available) c.args.want in
     let shared = c.min-shared.ensures ∙ ap (min c.args.want) c.total_of-total.ensures in
     omega (arith, so, fit, shared)
 
 pub invariant_of-result : goal.invariant_of-result
 unfolding pages_lacking
 invariant_of-result c =
-    let end : c.loop-number.number ≡ most_groups = omega arith in
-    let so = c.loop-number.invariant.given ∙ ap (λ n. sum_below n (whole_part most_groups (slice_index c.args.available) c.args.want)) end in
+    let end : c.loop-number.number ≡ c.args.room = omega arith in
+    let so = c.loop-number.invariant.given ∙ ap (λ n. sum_below n (whole_part c.args.room (slice_index c.args.available) c.args.want)) end in
     let shared = c.min-shared.ensures ∙ ap (min c.args.want) c.total_of-total.ensures in (
       c.total_of-total.ensures,
       (λ group less. c.loop-number.invariant.kept group (omega (arith, less, end))),
       (λ i. shared i - so i),
+      c.requires.room,
     )

@@ -6,7 +6,7 @@ use Rattle.group_protection.proofs.reclaim_shares.Shares.new.Given as goal
 abbrev pub invariant-loop-number : goal.invariant-loop-number
 invariant-loop-number l = record {
   long : length l.remainders ≡ most_groups;
-  given : l.given ≡ sum_below l.number (whole_part most_groups (slice_index l.available) l.want);
+  given : l.given ≡ sum_below l.number (whole_part l.room (slice_index l.available) l.want);
   few : l.given ≤ l.number * 2 ^ 32;
-  kept : (group : ℕ) → group < l.number → slice_index l.remainders group ≡ remainder most_groups (slice_index l.available) l.want group;
+  kept : (group : ℕ) → group < l.number → slice_index l.remainders group ≡ remainder l.room (slice_index l.available) l.want group;
 }
