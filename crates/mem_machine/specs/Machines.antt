@@ -254,7 +254,7 @@ OneByOne IsDone (frame ∷ others) before after = FirstThen (IsDone frame) (OneB
 abbrev pub IsCpuOf : KnownTable → ℕ → Type 0
 IsCpuOf table cpu = (1 ≤ cpu) × (cpu ≤ table.cpus)
 
--- for how many groups a boot makes room that asked for so many: at least the root, and at most the most
+-- the room of a boot that asked for so many groups: 1 at least, and `most_groups` at most
 abbrev pub boot_room : ℕ → ℕ
 boot_room groups = min groups most_groups - 1 + 1
 

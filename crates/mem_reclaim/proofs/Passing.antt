@@ -8,7 +8,7 @@ use Rattle.std.proofs.lemmas.Option.{none-some}
 use Rattle.boot_words.specs.Pasts.{IsHeld}
 use Rattle.group_tree.specs.declared.event.EventKey.TheVariants as event
 use Rattle.group_tree.specs.declared.group.Group.{Group}
-use Rattle.group_tree.specs.Groups.{AreGroups, in_subtree}
+use Rattle.group_tree.specs.Groups.{AreGroups, in_subtree, room_of}
 use Rattle.group_tree.proofs.CallerLemmas.{in_subtree-below}
 use Rattle.group_charge.specs.declared.settings.ReclaimSettings.{ReclaimSettings}
 use Rattle.group_charge.specs.Charges.{Ledger, are_protecting, current_of, with_noted}

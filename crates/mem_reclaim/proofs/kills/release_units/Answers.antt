@@ -1,4 +1,4 @@
-use Rattle.std.proofs.Common.{◌<◌, ◌≤◌, length, ap, sym, ◌∙◌, arith, rules}
+use Rattle.std.proofs.Common.{◌≤◌, length, ap, sym, ◌∙◌, arith}
 use Rattle.std.proofs.lemmas.Option.{none-some}
 use Rattle.boot_words.specs.Tables.{KnownTable}
 use Rattle.mem_machine.specs.{home_of, entries_in}
