@@ -15,7 +15,7 @@ import sys
 
 sys.dont_write_bytecode = True
 from ftrace_events import FORMS, Fault, Frames, MOST_FRAMES, parts_of, read  # noqa: E402
-from ftrace_log import Log, ROOT  # noqa: E402
+from ftrace_log import Log, ROOT, USUAL_GROUPS  # noqa: E402
 
 PAGE_SIZE = 4096
 
@@ -374,7 +374,8 @@ def convert(lines):
     for event in events:
         log.add(event)
     cpus = max(event.cpu for event in events) + 1
-    print("\n".join([f"zone {log.frames.count} {cpus}", *log.frames.comments(), *log.lines]))
+    groups = f" groups {log.most_groups}" if log.most_groups > USUAL_GROUPS else ""
+    print("\n".join([f"zone {log.frames.count} {cpus}{groups}", *log.frames.comments(), *log.lines]))
     for line in account(log):
         print(f"from-ftrace: {line}", file=sys.stderr)
     return all(group.is_old or not group.ends or group.ends[0] == group.ends[1] for group in log.made)

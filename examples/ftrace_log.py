@@ -3,7 +3,9 @@ import re
 
 from ftrace_events import Fault, MOST_CPUS, MOST_FRAMES
 
-ROOT, MOST_GROUPS, MOST_NAMES = 1, 64, 8
+ROOT, MOST_GROUPS, MOST_NAMES = 1, 1024, 8
+# A log has room for so many groups at once, with the root, if its first line doesn't say.
+USUAL_GROUPS = 64
 
 
 class Unit:
@@ -40,6 +42,7 @@ class Log:
     def __init__(self, frames):
         self.frames, self.event = frames, None
         self.groups = {ROOT: Group(ROOT, 0, "", None)}
+        self.most_groups = USUAL_GROUPS
         self.made, self.steps, self.lines = [], [], []
         self.units, self.used, self.seen = {}, set(), set()
         self.stocks = [(None, 0)] * MOST_CPUS
@@ -69,6 +72,7 @@ class Log:
         self.step(f"make {path}", f"number {number}")
         group = self.groups[key] = Group(key, number, path, parent, is_old)
         self.made.append(group)
+        self.most_groups = max(self.most_groups, len(self.groups))
         parent.children += 1
         return group
 

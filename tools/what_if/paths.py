@@ -6,7 +6,8 @@ from typing import Iterable, Iterator
 from .amounts import Fault
 
 NODE = "/node"
-MOST_NAMES, MOST_BYTES, MOST_GROUPS = 7, 507, 62
+# Below /node, which takes a group itself, and 5 bytes and a name of each path.
+MOST_NAMES, MOST_BYTES, MOST_GROUPS = 7, 507, 1022
 
 
 def check_path(path: str) -> None:

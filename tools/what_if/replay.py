@@ -9,7 +9,7 @@ from .amounts import Fault, seconds_text
 from .explanations import Line, read_line
 from .lives import CALM, Life, Restart, start_before
 from .paths import from_node, is_below, path_up, to_node
-from .session import Session
+from .session import Session, sizes
 from .usage import DEFAULTS, MOST_FRAMES, Usage
 
 # The zone has more frames than the limit of /node, so that a CPU's list never leaves it empty: that would kill nobody.
@@ -460,7 +460,9 @@ def start(usage: Usage, how: How, is_kept: bool = False) -> Session:
     if (usage.host or 0) > MOST_FRAMES:
         raise Fault(f"all groups together need {usage.host} frames, and a zone has at most {MOST_FRAMES}: a greater --frame is "
                     "due")
-    return Session(how.memcg, (usage.host or 0) + SPARE, how.choices, is_kept)
+    # The root of the zone is above /node, which is the record's /.
+    zone = sizes((usage.host or 0) + SPARE, len(usage.tracks) + 1)
+    return Session(how.memcg, zone, how.choices, is_kept)
 
 
 def always(_: Replay) -> bool:

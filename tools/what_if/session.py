@@ -17,11 +17,15 @@ LEAST_BYTES, MOST_BYTES = 4096, 60_000
 GET_PIPE_SIZE = 1032
 # A script of `replay` has at most so many bytes.
 MOST_SCRIPT = 1 << 20
+# A zone has room for so many groups, with the root, if its options don't say.
+USUAL_GROUPS = 64
 
 
-def sizes(frames: int) -> List[str]:
-    """The options of a zone in which a group is charged for exactly the frames that it has: a stock has one page."""
-    return ["--frames", str(frames), "--cpus", "1", "--stock", "1"]
+def sizes(frames: int, groups: int) -> List[str]:
+    """The options of a zone in which a group is charged for exactly the frames that it has: a stock has one page. A zone with
+    room for more groups than the usual ones takes longer for each reclaim, so it has room for no more than these."""
+    more = ["--groups", str(groups)] if groups > USUAL_GROUPS else []
+    return ["--frames", str(frames), "--cpus", "1", "--stock", "1", *more]
 
 
 def find_program(folders: Sequence[str]) -> str:
@@ -44,8 +48,8 @@ def pipe_bytes(file: IO[bytes]) -> int:
 class Session:
     """A session. The lines are kept if they are to become a log."""
 
-    def __init__(self, memcg: str, frames: int, choices: Sequence[str] = (), is_kept: bool = False) -> None:
-        self.memcg, self.words, self.is_no_kill = memcg, [*sizes(frames), *choices], "--no-kill" in choices
+    def __init__(self, memcg: str, sizes: Sequence[str], choices: Sequence[str] = (), is_kept: bool = False) -> None:
+        self.memcg, self.words, self.is_no_kill = memcg, [*sizes, *choices], "--no-kill" in choices
         self.script: Optional[List[str]] = [] if is_kept else None
         self.script_bytes = 0
         try:

@@ -1,7 +1,7 @@
 // What a log of memcg says beside its steps: the commands, and what they are answered
 
 import {
-  DIRTY, MARKED, MOST_GROUPS, MOST_LINE, MOST_NUMBER, PAGE, UNIT, groupList, groupOf, isGroupList, orderOf
+  DIRTY, MARKED, MOST_LINE, MOST_NUMBER, PAGE, UNIT, groupList, groupOf, isGroupList, orderOf
 } from "./state.js";
 
 // The refusals: of each number its name, and the sentence that explains it.
@@ -73,14 +73,14 @@ export function pagesOf(text, mayBeMax) {
   return mayBeMax && pages > MOST_NUMBER ? -1 : pages;
 }
 /** What a comment `# line N: P COMMAND` says, or null if no line of a script for these sizes is so. */
-export function lineOf(text, { frames, cpus }) {
+export function lineOf(text, { frames, cpus, mostGroups }) {
   const found = /^# line ([0-9]{1,7}): ([0-9]+) (.*)$/s.exec(text);
   if (!found) return null;
   const isCut = text.length === MOST_LINE, [verb, ...words] = wordsOf(found[3]), kinds = COMMANDS[verb];
   const line = { number: Number(found[1]), cpu: Number(found[2]), command: found[3], verb, words, isCut,
     isVague: isCut || verb === "write" && words.at(-1).includes("?") };
   if (line.cpu < 1 || line.cpu > cpus || !Object.hasOwn(COMMANDS, verb)) return null;
-  const most = { o: MOST_NUMBER, f: frames - 1, g: MOST_GROUPS - 1 };
+  const most = { o: MOST_NUMBER, f: frames - 1, g: mostGroups - 1 };
   const fits = words.length === kinds.length && words.every((word, at) => kinds[at] in most ? /^[0-9]+$/.test(word) &&
     Number(word) <= most[kinds[at]] : kinds[at] === "v" || word !== "");
   return fits || isCut ? line : null;

@@ -9,7 +9,6 @@ import { cellOf, frameAt, frameOfCell } from "./map.js";
 import { byId, page } from "./page.js";
 import { positionOf } from "./script.js";
 import { followSizes } from "./split.js";
-import { MOST_GROUPS } from "./state.js";
 import { centerTime, drawTimeline, hereShare, panTime, showTime, zoomTime } from "./time.js";
 import { LANE, isThereAt, placeAt, timeFrame } from "./timeline.js";
 import { panZone, zoomZone } from "./zone.js";
@@ -212,7 +211,7 @@ export function followHash(hash = location.hash) {
   if (line !== null) go(positionOf(line));
   if (frame !== null && frame < run.frames) pick(frame);
   const lives = run.lives.filter(each => each.path === path),
-    life = group !== null ? group < MOST_GROUPS && run.life(group) :
+    life = group !== null ? group < run.mostGroups && run.life(group) :
     lives.find(each => each.index === number("life")) ?? lives.find(each => isThereAt(each, run.position)) ?? lives[0];
   if (life) light(life);
   else if (number("cpu") > 0 && number("cpu") <= run.cpus) light(null, number("cpu"));

@@ -1,9 +1,9 @@
 // The map of the zone's frames
 
 import { isPaleIn } from "./go.js";
-import { css, fillStyled, inkOn, patternOf, rgb, sheets, styleOf } from "./paint.js";
+import { css, fillStyled, inkOn, patternOf, rgb, sheets, styleAt, styleOf, styles } from "./paint.js";
 import { HELD_BY_ZONE, IN_HAND } from "./run.js";
-import { DIRTY, MARKED, MOST_GROUPS, UNIT, groupOf, isGroupList } from "./state.js";
+import { DIRTY, MARKED, UNIT, groupOf, isGroupList } from "./state.js";
 
 const MOST_CELL = 116; // pixels
 
@@ -281,8 +281,7 @@ function smallDots(layout, lit) {
     return alpha * 2 ** 24 + b * 65536 + g * 256 + r;
   };
   const free = word(css("free")), [pale, full] = [90, 255].map(alpha => word(css("lent"), alpha)),
-    [pales, fulls] = [55, 255].map(alpha => Array.from({ length: MOST_GROUPS },
-    (_, group) => word(styleOf(group).color, alpha)));
+    [pales, fulls] = [55, 255].map(alpha => styles.map(style => word(styleAt(style).color, alpha)));
   let area = null;
   const add = (first, size, place) => {
     const group = place >= UNIT ? groupOf(place) : place ? -2 : -1, isPale = isPaleIn(lit, first, place);

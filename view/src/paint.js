@@ -1,7 +1,6 @@
 // Colours, hatchings and pens
 
 import { page } from "./page.js";
-import { MOST_GROUPS } from "./state.js";
 
 const OKABE_ITO = ["#e69f00", "#56b4e9", "#009e73", "#f0e442", "#0072b2", "#d55e00", "#cc79a7"];
 const HATCHES = ["none", "diagonal", "dots", "lines", "cross", "back", "columns", "grid", "dashes"];
@@ -16,9 +15,10 @@ export const styleAt = index => index ? {
   dash: []
 };
 /** The style of each group's number at this position, by its path. */
-export let styles = [...Array(MOST_GROUPS).keys()];
+export let styles = [];
 /** Gives the groups of this position their styles. */
-export const styleGroups = run => useStyles(styles.map((_, group) => run.life(group)?.style ?? group));
+export const styleGroups = run =>
+  useStyles(Array.from({ length: run.mostGroups }, (_, group) => run.life(group)?.style ?? group));
 export const useStyles = list => styles = list;
 export const styleOf = group => styleAt(styles[group]);
 /** The colours of the theme. */

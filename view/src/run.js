@@ -3,8 +3,8 @@
 import { SECONDS, lineOf } from "./commands.js";
 import { Numbers, between, indexIn } from "./numbers.js";
 import {
-  DIRTY, FRESH, IN_USE, LAST_PUT, LISTED, LISTS, MARKED, MOST_CPUS, MOST_GROUPS, MOST_LINE, NOTHING, PAGE, ROW, UNIT,
-  headIn, isGroupList, orderOf, parentPath
+  DIRTY, FRESH, IN_USE, LAST_PUT, LISTED, MARKED, MOST_CPUS, MOST_LINE, NOTHING, PAGE, ROW, UNIT, headIn, isGroupList,
+  listCount, orderOf, parentPath
 } from "./state.js";
 
 const COL = Object.fromEntries(ROW.map((name, at) => [name, at]));
@@ -38,10 +38,10 @@ export class Run {
   lacksSizes = false;
   steps = 0;
   constructor(state, log) {
-    const F = state.frames;
+    const F = state.frames, G = state.mostGroups;
     this.frames = F;
     this.cpus = state.cpus;
-    this.mostGroups = state.mostGroups;
+    this.mostGroups = G;
     this.log = log;
     this.LIST = F;
     this.SEQUENCE = 2 * F;
@@ -54,10 +54,10 @@ export class Run {
     this.STOCK_GROUP = room(SEATS);
     this.STOCK_PAGES = room(SEATS);
     this.CPU_PINS = room(SEATS);
-    this.LIFE = room(MOST_GROUPS);
-    this.ROWS = room(MOST_GROUPS * ROW.length);
-    this.LENGTH = room(LISTS);
-    this.OWN = room(MOST_GROUPS);
+    this.LIFE = room(G);
+    this.ROWS = room(G * ROW.length);
+    this.LENGTH = room(listCount(G));
+    this.OWN = room(G);
     this.FREE = room(1);
     this.LENT = room(1);
     this.TOTALS = room(TOTALS.length);
@@ -67,7 +67,7 @@ export class Run {
     this.pinNames = []; // of each pin's cell, its CPU and unit
     this.pinSlots = new Map();
     this.cells.fill(-1, this.STOCK_GROUP, this.STOCK_GROUP + SEATS);
-    this.cells.fill(-1, this.LIFE, this.LIFE + MOST_GROUPS);
+    this.cells.fill(-1, this.LIFE, this.LIFE + G);
     this.logCell = new Numbers(Int32Array);
     this.logBy = new Numbers(Float64Array); // by how much the cell grew
     this.position = 0;
@@ -75,7 +75,7 @@ export class Run {
     this.lives = [];
     this.styles = new Map(); // of each path: groups that have it one after the other look alike
     this.livesOf = new Map(); // of each path: how many groups had it
-    this.births = new Array(MOST_GROUPS).fill(0);
+    this.births = new Array(G).fill(0);
     this.removed = []; // the lives that ended, in that order
     this.leastFree = [0, this.frames]; // where, and how many frames
     this.seconds = []; // of samples: the position that comes next, and their seconds
@@ -134,7 +134,7 @@ export class Run {
     return this.cells[this.ROWS + group * ROW.length + COL[name]];
   }
   life(group) {
-    const life = this.cells[this.LIFE + group];
+    const life = group < this.mostGroups ? this.cells[this.LIFE + group] : -1;
     return life < 0 ? null : this.lives[life];
   }
   path(group) {
@@ -176,7 +176,7 @@ export class Run {
     return isGroupList(this.list(head));
   }
   groups() {
-    return [...Array(MOST_GROUPS).keys()].filter(group => this.cells[this.LIFE + group] >= 0);
+    return [...Array(this.mostGroups).keys()].filter(group => this.cells[this.LIFE + group] >= 0);
   }
   /** The numbers of a group and of all below it. */
   subtree(group) {
@@ -504,7 +504,7 @@ export class Run {
         if ((old ^ this.get(cell)) & (DIRTY | MARKED)) changes.flags.add(cell - 3 * F);
       } else if (stock >= 0 && stock < 2 * SEATS) changes.stocks.add(stock % SEATS);
       else if (cell >= this.PINS) changes.pins.add(cell - this.PINS);
-      else if (row >= 0 && row < MOST_GROUPS * ROW.length) {
+      else if (row >= 0 && row < this.mostGroups * ROW.length) {
         const group = Math.floor(row / ROW.length), rows = changes.groups.get(group) ?? new Map();
         changes.groups.set(group, rows.set(ROW[row % ROW.length], old));
       }

@@ -3,7 +3,8 @@
 // log of memcg says beside its steps. The tests run it alone.
 
 export const PAGE = 4096, MOST_LINE = 1024, MOST_NUMBER = 2 ** 32 - 1, MOST_FRAMES = 1048576, MOST_CPUS = 64;
-export const MOST_PINS = 256, MOST_REFERENCES = 255, MOST_FRESH = 32, MOST_GROUPS = 64, MOST_DEPTH = 8, MOST_ORDER = 10;
+export const MOST_PINS = 256, MOST_REFERENCES = 255, MOST_FRESH = 32, MOST_GROUPS = 1024, MOST_DEPTH = 8;
+export const MOST_ORDER = 10;
 export const DEFAULT_GROUPS = 64; // how many groups may exist at once, if the sizes don't say
 
 // Answers. Their numbers: n has 32 bits, w 64, g is a group, k an order.
@@ -24,7 +25,7 @@ export const placeOf = (group, order) => UNIT + group * 16 + order;
 export const groupOf = place => (place - UNIT) >> 4, orderOf = place => place & 15;
 // A list is one number, too: three of each CPU (its list, fresh and back frames), two of each group; 0 is none.
 export const cpuList = (kind, cpu) => (cpu - 1) * 3 + { l: 1, n: 2, b: 3 }[kind];
-export const FIRST_GROUP_LIST = 3 * MOST_CPUS + 1, LISTS = FIRST_GROUP_LIST + 2 * MOST_GROUPS;
+export const FIRST_GROUP_LIST = 3 * MOST_CPUS + 1, listCount = mostGroups => FIRST_GROUP_LIST + 2 * mostGroups;
 export const groupList = (group, isActive) => FIRST_GROUP_LIST + 2 * group + (isActive ? 1 : 0);
 export const isGroupList = list => list >= FIRST_GROUP_LIST;
 // Where a lent frame is, or what became of a unit, kept at its head.
@@ -60,14 +61,14 @@ export class State {
     this.before = new Int32Array(frames);
     this.turn = new Uint32Array(frames); // when the frame was added to its list
     this.turns = 0;
-    this.first = new Int32Array(LISTS).fill(-1);
-    this.last = new Int32Array(LISTS).fill(-1);
-    this.length = new Int32Array(LISTS);
-    this.clean = new Int32Array(MOST_GROUPS); // pages of the clean units on each group's lists
+    this.first = new Int32Array(listCount(mostGroups)).fill(-1);
+    this.last = new Int32Array(listCount(mostGroups)).fill(-1);
+    this.length = new Int32Array(listCount(mostGroups));
+    this.clean = new Int32Array(mostGroups); // pages of the clean units on each group's lists
     this.parts = [null];
     for (let cpu = 1; cpu <= cpus; cpu++) this.parts.push({ pins: new Map(), pinned: 0, transit: 0, group: -1, pages: 0,
       isDrained: false, book: 0, unreported: 0, reported: 0 });
-    this.groups = new Array(MOST_GROUPS).fill(null);
+    this.groups = new Array(mostGroups).fill(null);
     this.numbers = new Map();
     this.passer = new Map(); // whose frame is in transit back
     // What changed since the page looked last; of groups in `usages` no more than usage, peak and own frames.
@@ -228,6 +229,7 @@ export class State {
     if (group === top) return 0;
     if (parent === top) return most < 0 ? MOST_NUMBER : most;
     const above = this.protection(key, top, parent), claim = this.claim(group, key);
+    if (!above) return 0; // before the sum over all groups, of which a zone may have many
     const claims = this.groups.reduce((sum, each) => each?.parent === parent ? sum + this.claim(each.number, key) : sum,
       0);
     if (claims > above) return Math.floor(claim * above / claims);

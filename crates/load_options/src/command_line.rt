@@ -57,7 +57,7 @@ const STOCK_HELP: &str = "Pages that a CPU charges ahead, 1 to 64";
 const RECLAIM_BATCH_HELP: &str =
     "Pages that a round of reclaim wants at least for a charge, 1 to 64";
 
-const GROUPS_HELP: &str = "Groups that may exist at once, the root included, 1 to 1,024";
+const GROUPS_HELP: &str = "Groups that may exist at once, the root included, 1 to 1024";
 
 const NO_KILL_HELP: &str = "Kills nobody: a charge without room is refused";
 
@@ -151,8 +151,8 @@ pub fn words<R: Env + AllocGlobal>(rt: &R) -> Result<Vec<String>, WordsFault> {
 /// `--version` or `-V` alone. Anything else is a fault of the words, even a request for help.
 ///
 /// A size is a whole number in its own range: 1 to 1,048,576 frames, 1 to 64 CPUs, batch 1 to 64, high 1 to 256,
-/// stock 1 to 64, reclaim-batch 1 to 64, groups 1 to 1,024. `Config::is_valid` requires more: high is at least batch. The
-/// defaults are 16, 2, 4, 8, 4, 1 and 64.
+/// stock 1 to 64, reclaim-batch 1 to 64, groups 1 to 1,024. `Config::is_valid` requires more: high is at least batch.
+/// The defaults are 16, 2, 4, 8, 4, 1 and 64.
 pub fn options<S: AsStr>(alloc: Global, words: &[S]) -> Result<Options, WordsFault>
     ensures asked { GivesOptions (options_of (map S.text words.now)) result }
     ensures in_range { IfOk result (λ o. HasSizesInRange o.sizes) }

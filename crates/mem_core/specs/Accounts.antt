@@ -44,9 +44,9 @@ abbrev pub AccountsFollow : State → Action → Answer → List Account → Lis
 AccountsFollow t step answer old new = (m : ℕ) → has_group t.groups m ≡ true
     → account_in new m ≡ account_after t step answer m (account_in old m)
 
--- each peak is below 2^104
+-- each peak is below 2^108
 abbrev pub HaveSmallPeaks : List Account → Type 0
-HaveSmallPeaks accounts = All (λ a. a.peak < 2 ^ 104) accounts
+HaveSmallPeaks accounts = All (λ a. a.peak < 2 ^ 108) accounts
 
 -- the group to which a step grants pages
 abbrev pub granted_to : Action → Answer → Option ℕ

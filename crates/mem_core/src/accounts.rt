@@ -11,22 +11,28 @@ ghost use Rattle.group_tree.specs.{most_groups, in_subtree};
 use crate::account::Account;
 use crate::rows::Rows;
 use group_tree::event::{EventCounts, EventKey};
-use group_tree::group::{GroupId, MAX_GROUPS};
+use group_tree::group::GroupId;
 use std::alloc::{AllocError, Global};
 use step_rules::step::{Action, Answer};
 
-/// An account for each group number, each that of a new group.
-pub(crate) fn new_accounts(alloc: Global) -> Result<Vec<Account>, AllocError>
-    ensures items { IfOk result (λ accounts. accounts.items ≡ replicate most_groups new_account) }
-    ensures number { IfOk result (λ accounts. vec_len accounts ≡ most_groups) }
+// The account of a new group.
+fn new_account() -> Account
+    ensures { result ≡ new_account }
 {
     let none = EventCounts::none();
-    let account = Account {
+    Account {
         peak: 0,
         events: none,
         events_local: none,
-    };
-    vec![in alloc; account; MAX_GROUPS]
+    }
+}
+
+/// This many accounts, each that of a new group.
+pub(crate) fn new_accounts(alloc: Global, groups: usize) -> Result<Vec<Account>, AllocError>
+    ensures items { IfOk result (λ accounts. accounts.items ≡ replicate groups new_account) }
+    ensures number { IfOk result (λ accounts. vec_len accounts ≡ groups) }
+{
+    vec![in alloc; new_account(); groups]
 }
 
 // The event that a step counts, and the group at which it counts it.
@@ -120,9 +126,9 @@ fn granted_to(action: &Action, answer: &Answer) -> Option<GroupId>
 fn peak_after(rows: &Rows, action: &Action, answer: &Answer, group: GroupId, peak: u128) -> u128
     requires fits { FitsZone rows.now }
     requires bounded { IsBelowBounds (state_in rows.now) }
-    requires small { peak < 2 ^ 104 }
+    requires small { peak < 2 ^ 108 }
     ensures peak { result ≡ peak_follows (state_in rows.now) action.now answer.now group peak }
-    ensures small { result < 2 ^ 104 }
+    ensures small { result < 2 ^ 108 }
 {
     if makes_group(group, action, answer) {
         return 0;
@@ -142,9 +148,9 @@ fn account_after(
 ) -> Account
     requires fits { FitsZone rows.now }
     requires bounded { IsBelowBounds (state_in rows.now) }
-    requires small { account.peak < 2 ^ 104 }
+    requires small { account.peak < 2 ^ 108 }
     ensures account { result ≡ account_after (state_in rows.now) action.now answer.now group account }
-    ensures small { result.peak < 2 ^ 104 }
+    ensures small { result.peak < 2 ^ 108 }
 {
     Account {
         peak: peak_after(rows, action, answer, group, account.peak),

@@ -15,6 +15,7 @@ use crate::accounts::{new_accounts, update_accounts};
 use crate::free_areas::set_areas;
 use crate::rows::Rows;
 use crate::serve::{pages_asked, serve};
+use group_tree::group::MAX_GROUPS;
 use std::alloc::{AllocError, Global};
 use std::marker::Model;
 use step_rules::step::{Answer, Step};
@@ -53,7 +54,7 @@ impl Core {
         ensures empty { IfOk result (λ core. ShowsRun core []) }
         ensures areas { IfOk result HasMaximalAreas }
     {
-        let accounts = new_accounts(alloc)?;
+        let accounts = new_accounts(alloc, MAX_GROUPS)?;
         let mut free = Vec::with_capacity(alloc, config.frames as usize)?;
         let mut areas = FreeAreas::new(alloc, config.frames)?;
         let rows = Rows::new(alloc, config.frames, config.cpus, config.choices.groups)?;

@@ -233,7 +233,7 @@ impl Rows {
         requires fits { FitsZone self.now }
         requires bounded { IsBelowBounds (state_in self.now) }
         ensures usage { result ≡ usage_of (state_in self.now) group }
-        ensures few { result < 2 ^ 104 }
+        ensures few { result < 2 ^ 108 }
     {
         self.frames_kept(group) + self.pages_prepaid(group) + self.pages_pending(group)
     }

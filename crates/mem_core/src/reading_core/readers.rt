@@ -139,16 +139,16 @@ impl Core {
         ensures now { result ≡ usage_of (state_shown self.now) group }
         ensures shown { result ≡ (core_shown self.now).current group }
         ensures run { (run : Run) → ShowsRun self.now run → result ≡ usage_of (state_of self.now.zone run) group }
-        ensures few { result < 2 ^ 104 }
+        ensures few { result < 2 ^ 108 }
     {
         self.rows.usage(group)
     }
 
-    /// The greatest usage of an existing group since it was made (memory.peak), in pages; it is below 2^104.
+    /// The greatest usage of an existing group since it was made (memory.peak), in pages; it is below 2^108.
     pub fn peak(&self, group: GroupId) -> u128
         requires { IsTrue (has_group self.now.groups group) }
         ensures now { result ≡ (account_in self.now.accounts group).peak }
-        ensures few { result < 2 ^ 104 }
+        ensures few { result < 2 ^ 108 }
         ensures run { (run : Run) → ShowsRun self.now run → IsPeak self.now.zone run group result }
     {
         self.accounts[group.number() as usize].peak

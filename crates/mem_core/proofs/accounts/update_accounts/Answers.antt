@@ -21,7 +21,7 @@ pub account_after-requires-clause-small : goal.account_after-requires-clause-sma
 account_after-requires-clause-small c =
     let n = c.number-place.result in
     let inside : n < length c.loop-row.accounts.items = omega (arith, c.loop-row.accounts.ok.0) in
-    subst (λ (a : Account). a.peak < 2 ^ 104) (sym c.index.ensures) (c.loop-row.invariant.few n c.index.result.now inside)
+    subst (λ (a : Account). a.peak < 2 ^ 108) (sym c.index.ensures) (c.loop-row.invariant.few n c.index.result.now inside)
 
 pub loop-row-preserved : goal.loop-row-preserved
 loop-row-preserved c =
@@ -34,10 +34,10 @@ loop-row-preserved c =
     let number : n ≡ (get_or rows c.loop-row.row-index c.row-item.result).number = c.number-place.ensures.value ∙ ap (λ (g : Group). g.number) c.row-item.is in
     let value : c.account_after.result ≡ f n (get_or accounts n c.index.result.now) =
     c.account_after.ensures.account ∙ ap (λ (k : ℕ). f k c.index.result.now) (sym c.number-place.ensures.value) ∙ ap (f n) c.index.ensures in
-    let few : c.account_after.result.peak < 2 ^ 104 = c.account_after.ensures.small in
+    let few : c.account_after.result.peak < 2 ^ 108 = c.account_after.ensures.small in
     record {
       length = c.loop-row.invariant.length;
-      few = All-set (λ (a : Account). a.peak < 2 ^ 104) accounts n c.account_after.result few c.loop-row.invariant.few;
+      few = All-set (λ (a : Account). a.peak < 2 ^ 108) accounts n c.account_after.result few c.loop-row.invariant.few;
       changed = AreChanged-step rows f c.args.accounts.now.items accounts c.loop-row.row-index n c.row-item.result
           c.index.result.now c.account_after.result facts.numbers_distinct c.loop-row-test.true inside number value c.loop-row.invariant.changed;
     }

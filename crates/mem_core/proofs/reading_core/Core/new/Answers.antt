@@ -19,7 +19,7 @@ use Rattle.mem_core.proofs.reading_core.Core.new.Goals as goal
 
 new_peaks : HaveSmallPeaks (replicate most_groups new_account)
 new_peaks k d h =
-    let len = length-replicate {A = Account} most_groups new_account in subst (λ (a : Account). a.peak < 2 ^ 104)
+    let len = length-replicate {A = Account} most_groups new_account in subst (λ (a : Account). a.peak < 2 ^ 108)
     (sym (get_or-replicate most_groups k new_account d (omega arith))) (lit< tt)
 
 pub set_areas-requires-clause-frames : goal.set_areas-requires-clause-frames

@@ -24,5 +24,5 @@ returns-clause-kept c =
     subst (λ (n : ℕ). IsTally n (λ f. keeper_class (s.phases f)) sizes) c.requires.fits.phases c.kept-kept.ensures.sizes in
     c.loop-number.invariant.sum
     ∙ ap (λ n. sum_to n (λ h. if in_subtree s.groups c.args.group h then slice_index_or sizes (h + 1) 0 else 0)) all
-    ∙ sum_room s.groups c.args.group (λ h. slice_index_or sizes (h + 1) 0) c.groups.ensures.legal
+    ∙ sum_room s.groups c.args.group (λ h. slice_index_or sizes (h + 1) 0) c.groups-groups.ensures.legal
     ∙ kept_by_class s.groups s.phases s.zone.frames c.args.group sizes tally c.kept-kept.ensures.number

@@ -13,4 +13,4 @@ returns-clause-pages c =
     let all : c.loop-number.number ≡ room_of s.groups = omega (arith, c.room-number-end.ensures.room) in
     c.loop-number.invariant.sum
     ∙ ap (λ n. sum_to n (λ h. if in_subtree s.groups c.args.group h then s.pending h else 0)) all
-    ∙ sum_room s.groups c.args.group s.pending c.groups.ensures.legal
+    ∙ sum_room s.groups c.args.group s.pending c.groups-groups.ensures.legal
