@@ -230,4 +230,5 @@ count_once p g k (suc n) is from before = elim (cases_eq k g) [
 pub turns_leave_out_no_group : TurnsLeaveOutNoGroup
 unfolding subtree_of
 turns_leave_out_no_group groups target g facts inside =
-    count_once (in_subtree groups target) g 0 (room_of groups) inside (omega arith) (number_in_room groups g facts (in_subtree-below groups target g inside))
+    count_once (in_subtree groups target) g 0 (room_of groups) inside (omega arith)
+    (let low = number_in_room groups g facts (in_subtree-below groups target g inside) in omega (arith, low))
