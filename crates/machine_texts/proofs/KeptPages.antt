@@ -24,6 +24,7 @@ use Rattle.step_rules.proofs.Sums.{sum_both, sum_same}
 use Rattle.boot_words.specs.Tables.{KnownTable}
 use Rattle.mem_machine.specs.declared.frame_state.FrameState.{FrameState}
 use Rattle.mem_machine.specs.declared.frame_state.FrameState.TheVariants.{Free, Lent, Head, Tail}
+use Rattle.group_tree.specs.Groups.{room_of}
 use Rattle.mem_machine.specs.{AreUnits, FitsFrameState, IsConsistent, KnownMachine, entries_in, frame_state_at, frame_state_group, head_group_of}
 use Rattle.mem_machine.specs.{headed_unit, one_if_is}
 use Rattle.mem_machine.proofs.Freeing.{is_out, sum_within}
@@ -103,7 +104,7 @@ abbrev is_inactive : LruList → Bool
 is_inactive Inactive = true
 is_inactive Active = false
 
-module _ (t : KnownTable) (m : KnownMachine) (ok : IsConsistent t m) (only_dirty : Bool) (g : ℕ) (fits : g < 64) where
+module _ (t : KnownTable) (m : KnownMachine) (ok : IsConsistent t m) (only_dirty : Bool) (g : ℕ) where
   abbrev one_of : FrameState → ℕ
   one_of s = one_if_is g (frame_state_group s)
 
@@ -126,15 +127,15 @@ module _ (t : KnownTable) (m : KnownMachine) (ok : IsConsistent t m) (only_dirty
 
   owned : (list : LruList) → AllCount m ok.units only_dirty (λ x. one_of (frame_state_at m.frame_states x)) (entries_in m g list)
   owned list f is =
-      let home = (listed_is t m ok g fits list).homes f is in
+      let home = (listed_is t m ok g list).homes f is in
       let there = ok.frame_states f (home_inside t m ok f (record { owner = g; list = list }) home) in
-      headed f (frame_state_at m.frame_states f) refl (subst (λ (o : Option Home). FitsFrameState o (frame_state_at m.frame_states f)) home there).1
+      headed f (frame_state_at m.frame_states f) refl (subst (λ (o : Option Home). FitsFrameState (room_of m.ledger.groups) o (frame_state_at m.frame_states f)) home there).1
 
   -- what is on its lists is charged to it
   kept_of : pages_on m Inactive only_dirty g + pages_on m Active only_dirty g ≤ pages_of m.ledger g
   kept_of =
-      let inactive = listed_is t m ok g fits Inactive in
-      let active = listed_is t m ok g fits Active in
+      let inactive = listed_is t m ok g Inactive in
+      let active = listed_is t m ok g Active in
       let a = fit m ok.units only_dirty (entries_in m g Active) (pages_on m Active only_dirty g)
       (λ h all. let one = fit m ok.units only_dirty [] 0 (λ h none. omega arith) (entries_in m g Active) active.apart (λ f is. refl) h all
       (λ f is. absurd (false≢true is)) in omega (arith, one))
@@ -151,16 +152,14 @@ module _ (t : KnownTable) (m : KnownMachine) (ok : IsConsistent t m) (only_dirty
 
 -- two sums over the groups, if each group's part of both is at most its account's part of a third
 rows_few : (f h : ℕ → ℕ) (most : Account → ℕ) (rows : List Group) (accounts : List Account)
-    → map (λ (a : Account). a.group) accounts ≡ map (λ (row : Group). row.number) rows → All (λ (row : Group). row.number < 64) rows
-    → All (λ (a : Account). a.group < 64 → f a.group + h a.group ≤ most a) accounts
+    → map (λ (a : Account). a.group) accounts ≡ map (λ (row : Group). row.number) rows → All (λ (a : Account). f a.group + h a.group ≤ most a) accounts
     → sum_by (λ (row : Group). f row.number) rows + sum_by (λ (row : Group). h row.number) rows ≤ sum_by most accounts
-rows_few f h most [] accounts same small few = omega arith
-rows_few f h most (row ∷ rows) [] same small few = absurd (let none = ap length same in omega (arith, none))
-rows_few f h most (row ∷ rows) (a ∷ accounts) same small few =
+rows_few f h most [] accounts same few = omega arith
+rows_few f h most (row ∷ rows) [] same few = absurd (let none = ap length same in omega (arith, none))
+rows_few f h most (row ∷ rows) (a ∷ accounts) same few =
     let number : a.group ≡ row.number = ap (λ (ns : List ℕ). get_or ns 0 0) same in
-    let rest = rows_few f h most rows accounts (ap (drop 1) same) (λ k d lt. small (suc k) d (omega arith)) (λ k d lt. few (suc k) d (omega arith)) in
-    let low : row.number < 64 = small 0 row (omega arith) in
-    let one : f a.group + h a.group ≤ most a = few 0 a (omega arith) (omega (arith, number, low)) in
+    let rest = rows_few f h most rows accounts (ap (drop 1) same) (λ k d lt. few (suc k) d (omega arith)) in
+    let one : f a.group + h a.group ≤ most a = few 0 a (omega arith) in
     omega (
       arith,
       rest,
@@ -182,10 +181,10 @@ pub kept_below : (t : KnownTable) (m : KnownMachine) → IsConsistent t m → Ar
 unfolding usage_charged pages_of
 kept_below t m ok legal only_dirty g =
     rows_few (pages_shared m Inactive only_dirty g) (pages_shared m Active only_dirty g) (λ (a : Account). cond (in_subtree m.ledger.groups g a.group) a.pages 0)
-    m.ledger.groups m.ledger.accounts legal.numbers (λ k d lt. let low = legal.groups.numbers k d lt in let few = legal.groups.room in omega arith)
-    (λ k d lt low.
+    m.ledger.groups m.ledger.accounts legal.numbers
+    (λ k d lt.
     let a : Account = get_or m.ledger.accounts k d in
     let own : pages_of m.ledger a.group ≡ a.pages =
     ap (λ (o : Option Account). option_map_or (λ (x : Account). x.pages) o 0) (account_at-there m.ledger a legal (Contains-get_or m.ledger.accounts k d lt)) in
     both_if (in_subtree m.ledger.groups g a.group) (pages_on m Inactive only_dirty a.group) (pages_on m Active only_dirty a.group) a.pages
-    (omega (arith, own, kept_of t m ok only_dirty a.group low)))
+    (omega (arith, own, kept_of t m ok only_dirty a.group)))

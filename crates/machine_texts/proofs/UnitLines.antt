@@ -81,7 +81,7 @@ ahead_is next (e ∷ es) u is some = (es, let s : Some e ≡ Some u = sym is ∙
     same : (a b : Entry) → Some a ≡ Some b → a ≡ b
     same a b e = cc
 
-module _ (t : KnownTable) (g : ℕ) (fits : g < 64) (list : LruList) (before : KnownMachine) (i : ℕ) (next : Option Entry) (now : KnownMachine)
+module _ (t : KnownTable) (g : ℕ) (list : LruList) (before : KnownMachine) (i : ℕ) (next : Option Entry) (now : KnownMachine)
     (tells : List ℕ → Type 0) (ok : IsConsistent t now) (s : MetSoFar t g list before i next now tells) where
   same_entries : entries_in now g list ≡ entries_in before g list
   same_entries = ap (λ (x : KnownMachine). entries_in x g list) s.same
@@ -90,7 +90,7 @@ module _ (t : KnownTable) (g : ℕ) (fits : g < 64) (list : LruList) (before : K
   is_met u some =
       let a = ahead_is next s.todo u s.next_is some in
       let are : entries_in now g list ≡ s.met ++ u ∷ a.0 = same_entries ∙ s.are ∙ ap (λ (l : List Entry). s.met ++ l) a.1 in
-      let is : IsListed now g list (s.met ++ u ∷ a.0) = subst (IsListed now g list) are (listed_is t now ok g fits list) in
+      let is : IsListed now g list (s.met ++ u ∷ a.0) = subst (IsListed now g list) are (listed_is t now ok g list) in
       let home = is.homes u.number (has_mid s.met a.0 u u.number refl) in
       record {
         rest = a.0;

@@ -11,7 +11,7 @@ use Rattle.group_tree.specs.declared.event.EventKey.TheVariants.{Oom}
 use Rattle.group_charge.specs.declared.account.Account as charge
 use Rattle.group_charge.specs.Charges.{AreCharges, current_of, usage_charged, with_event_at, with_oom_noted}
 use Rattle.group_charge.proofs.CallerLemmas.{sum-map_same}
-use Rattle.group_tree.proofs.CallerLemmas.{number_below}
+use Rattle.group_tree.proofs.CallerLemmas.{number_below, number_in_room}
 use Rattle.group_charge.proofs.SumLemmas.{share}
 use Rattle.boot_words.specs.Pasts.{IsHeld}
 use Rattle.step_rules.specs.{sum_to, Run}
@@ -154,7 +154,8 @@ fewer_alive t m n g killed whole charges most head marked =
     let now = with_all_killed m.killed groups in
     let low = victim_below m charges g v most in
     let many = whole.sizes.killed in
-    let inside : v < length m.killed = omega (arith, low, many) in
+    let within = number_in_room m.ledger.groups v charges.groups (chosen_there m g v most.chosen) in
+    let inside : v < length m.killed = omega (arith, within, many) in
     let alive : is_killed m.killed v ≡ false = not-true (is_killed m.killed v) (and_parts (in_subtree m.ledger.groups g v) _ most.chosen).1 in
     let dies = victims_die m g killed (record { groups = charges.groups; chosen = most; killed_root_is = head }) in
     let dead : is_killed now v ≡ true = all_marked groups m.killed v dies.0 inside dies.1 dies.2 in

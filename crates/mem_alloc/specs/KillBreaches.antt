@@ -1,7 +1,6 @@
 -- What breaks the laws of kills: calls, and lists of steps, each there for one thing that is wrong. So each line of the
 -- definitions refuses something.
 use Rattle.std.specs.Prelude.{◌≡◌, ℕ, ◌≤◌, ◌⊎◌, Bool, true, false, Some, List, [], ◌∷◌, ◌++◌, codes, map, replicate, slice_set}
-use Rattle.group_tree.specs.Bounds.{most_groups}
 use Rattle.group_tree.specs.declared.group.Group.{Group}
 use Rattle.group_tree.specs.Groups.{in_subtree, new_row, the_root}
 use Rattle.group_charge.specs.declared.account.Account.{Account}
@@ -71,7 +70,7 @@ IsNever Is s =
 abbrev pub IsTooEarly : Situation → Killed → Type 0
 IsTooEarly s killed = IsNever (λ call. MayKill asks_a_page call killed) s
 
--- the root, /a with a limit, /a/b, /a/c and /d; memory.oom.group of /a and of /a/b
+-- the root, with room for four groups below it: /a with a limit, /a/b, /a/c and /d; memory.oom.group of /a and of /a/b
 abbrev pub tree : (limit : ℕ) (of_a of_b : Bool) → List Group
 tree limit of_a of_b =
     the_root 4 ∷ record (new_row 1 (codes "/a")) { limit = Some limit; oom_group = of_a }
@@ -125,7 +124,7 @@ tried = record {
   links_before = first_of 2 false;
   links = first_of 2 false;
   frames = charged_to 2;
-  killed = replicate most_groups false;
+  killed = replicate 5 false;
   stock = record { group = Some 2; pages = 0; is_drained = true };
   misses_before = 0;
   misses = 1;
@@ -187,7 +186,7 @@ beside_a_greater = record tried {
 
 -- /a/b was killed before
 abbrev pub killed_before : Situation
-killed_before = record tried { killed = slice_set (replicate most_groups false) 2 true }
+killed_before = record tried { killed = slice_set (replicate 5 false) 2 true }
 
 -- which groups were killed is forgotten
 abbrev pub forgotten_kills : Situation

@@ -114,11 +114,11 @@ module _ (t : KnownTable) (m : KnownMachine) (c : KnownCpuLists) (ok : IsConsist
 
       pub all_returned : (free now_free : List Bool) (sums : List ℕ) (owners : List (Option ℕ)) → free ≡ free_of m.frame_states
           → GivesFrames free (record { at = f; order = unit.order }) now_free
-          → AreBooked t.cpus (left_by t m.run.past).parts sums → AreOwners t.cpus (left_by t m.run.past).parts owners
+          → AreBooked (length m.killed) t.cpus (left_by t m.run.past).parts sums → AreOwners t.cpus (left_by t m.run.past).parts owners
           → AllMoved t m c (ReturnsBack f) (return_steps c.number f) returned d now_free sums owners
       all_returned free now_free sums owners was gives are own =
           let seen = left_seen t m.run.past visit.held in
-          let are_seen : AreBooked t.cpus (hide (local_of t m)).parts sums = subst (λ (u : State). AreBooked t.cpus u.parts sums) seen are in
+          let are_seen : AreBooked (length m.killed) t.cpus (hide (local_of t m)).parts sums = subst (λ (u : State). AreBooked (length m.killed) t.cpus u.parts sums) seen are in
           let phases = without_unit (with_at (local_of t m).phases f (phase.Head unit AwaitsReturn)) f in record {
             consistent = record {
               choice = ok.choice;
@@ -131,9 +131,9 @@ module _ (t : KnownTable) (m : KnownMachine) (c : KnownCpuLists) (ok : IsConsist
               shown = subst (IsShownBy t returned) (sym left) returned_shown;
             };
             free_is = free_block_given free now_free m.frame_states new f unit.order (ok.units.heads f unit heads).block.inside was gives frees;
-            sums_are = subst (λ (u : State). AreBooked t.cpus u.parts sums) (sym left)
+            sums_are = subst (λ (u : State). AreBooked (length m.killed) t.cpus u.parts sums) (sym left)
                 (sums_moved t m returned (local_of t m) shown c.number part phases (local_of t m).references sums sums are_seen refl
-                (λ h small. are_seen.each h small ∙ sym (books h)));
+                (λ h. are_seen.each h ∙ sym (books h)));
             owners_are = subst (λ (u : State). AreOwners t.cpus u.parts owners) (sym left)
                 (owners_moved t m returned (local_of t m) shown c.number part phases (local_of t m).references owners
                 (subst (λ (u : State). AreOwners t.cpus u.parts owners) seen own) refl);
@@ -199,7 +199,7 @@ module _ (t : KnownTable) (m now : KnownMachine) (same : m ≡ now) (c : KnownCp
             (subst (λ (x : ℕ). Records t later (zone_makes (Return x) Done ∷ []) last) index returned)
 
   pub return_all : (f : ℕ) (h : KnownCpuLists) → PassesBackUnit f c h → (free now_free : List Bool) (sums : List ℕ) (owners : List (Option ℕ)) → free ≡ free_of m.frame_states
-      → AreBooked t.cpus (left_by t m.run.past).parts sums → AreOwners t.cpus (left_by t m.run.past).parts owners → (i : ℕ) → i ≡ f
+      → AreBooked (length m.killed) t.cpus (left_by t m.run.past).parts sums → AreOwners t.cpus (left_by t m.run.past).parts owners → (i : ℕ) → i ≡ f
       → (unit : ChargedUnit) → frame_state_at m.frame_states i ≡ Head unit → (new : List FrameState) → FreesFrames i (2 ^ unit.order) m.frame_states new
       → (blocks : List Block) → GivesFrames free (record { at = i; order = unit.order }) now_free → AreMaximalBlocks now_free blocks
       → (ledger : Ledger) → ledger ≡ with_uncharge m.ledger unit.group (2 ^ unit.order) → (counts : Counts) → counts ≡ with_last_put m.counts

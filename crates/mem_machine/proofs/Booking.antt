@@ -4,7 +4,6 @@ use Rattle.std.proofs.Common.{◌≡◌, ℕ, ◌+◌, ◌-◌, ◌<◌, ◌≤�
 use Rattle.std.specs.Prelude.{slice_set}
 use Rattle.std.proofs.lemmas.Bool.{cases_eq, ne_eqb, cond-true, cond-false}
 use Rattle.std.proofs.lemmas.List.{get_or-set_same, get_or-set_other, length-set}
-use Rattle.group_tree.specs.Bounds.{most_groups}
 use Rattle.step_rules.specs.State.{Part, sum_to, with_at}
 use Rattle.step_rules.proofs.Basics.{at_through}
 use Rattle.step_rules.proofs.Sums.{sum_change, sum_part}
@@ -52,18 +51,19 @@ books_same cpus a b book group h = ap (λ (f : ℕ → ℕ). sum_to (cpus + 1) f
 
 -- ---- the sums
 
-pub sums_same : (cpus : ℕ) (a b : ℕ → Part) (sums : List ℕ) → AreBooked cpus a sums → ((h : ℕ) → pages_booked cpus b h ≡ pages_booked cpus a h) → AreBooked cpus b sums
-sums_same cpus a b sums are same = record { size = are.size; each = λ h fits. are.each h fits ∙ sym (same h) }
+pub sums_same : {room : ℕ} (cpus : ℕ) (a b : ℕ → Part) (sums : List ℕ) → AreBooked room cpus a sums → ((h : ℕ) → pages_booked cpus b h ≡ pages_booked cpus a h)
+    → AreBooked room cpus b sums
+sums_same cpus a b sums are same = record { size = are.size; each = λ h. are.each h ∙ sym (same h) }
 
 -- the sum of one group changes
-sums_else : (cpus : ℕ) (a b : ℕ → Part) (sums : List ℕ) (g x : ℕ) → AreBooked cpus a sums → g < most_groups → x ≡ pages_booked cpus b g
-    → ((h : ℕ) → (h ≡ g → ⊥) → pages_booked cpus b h ≡ pages_booked cpus a h) → AreBooked cpus b (slice_set sums g x)
+sums_else : {room : ℕ} (cpus : ℕ) (a b : ℕ → Part) (sums : List ℕ) (g x : ℕ) → AreBooked room cpus a sums → g < room → x ≡ pages_booked cpus b g
+    → ((h : ℕ) → (h ≡ g → ⊥) → pages_booked cpus b h ≡ pages_booked cpus a h) → AreBooked room cpus b (slice_set sums g x)
 sums_else cpus a b sums g x are inside here others = record {
   size = length-set sums g x ∙ are.size;
-  each = λ h fits. elim (cases_eq h g) [
+  each = λ h. elim (cases_eq h g) [
     | inl e ↦
         subst (λ (k : ℕ). get_or (slice_set sums g x) k 0 ≡ pages_booked cpus b k) (sym e) (get_or-set_same sums g x 0 (let s = are.size in omega (arith, s, inside)) ∙ here)
-    | inr ne ↦ get_or-set_other sums g h x 0 ne ∙ are.each h fits ∙ sym (others h ne)
+    | inr ne ↦ get_or-set_other sums g h x 0 ne ∙ are.each h ∙ sym (others h ne)
   ];
 }
 
@@ -97,9 +97,9 @@ module _ (cpus : ℕ) (parts : ℕ → Part) (q : ℕ) (inside : q ≤ cpus) whe
         let split = cond_split (h == g) new.book k (parts q).book less in
         omega (arith, move, a, b, split)
 
-    pub sums_less : (sums : List ℕ) → AreBooked cpus parts sums → g < most_groups → AreBooked cpus (with_at parts q new) (slice_set sums g (get_or sums g 0 - k))
+    pub sums_less : {room : ℕ} (sums : List ℕ) → AreBooked room cpus parts sums → g < room → AreBooked room cpus (with_at parts q new) (slice_set sums g (get_or sums g 0 - k))
     sums_less sums are fits = sums_else cpus parts (with_at parts q new) sums g (get_or sums g 0 - k) are fits
-        (let a = are.each g fits in let b = books_less g in let z : cond (g == g) k 0 ≡ k = cond-true (g == g) k 0 (eq-eqb g g refl) in omega (arith, a, b, z))
+        (let a = are.each g in let b = books_less g in let z : cond (g == g) k 0 ≡ k = cond-true (g == g) k 0 (eq-eqb g g refl) in omega (arith, a, b, z))
         (λ h ne. let b = books_less h in let z : cond (h == g) k 0 ≡ 0 = cond-false (h == g) k 0 (ne_eqb h g ne) in omega (arith, b, z))
 
   -- an empty book is now one of the group, with this many pages
@@ -112,7 +112,7 @@ module _ (cpus : ℕ) (parts : ℕ → Part) (q : ℕ) (inside : q ≤ cpus) whe
         let same = ap (λ (x : ℕ). cond (h == g) x 0) more in
         omega (arith, move, a, b, same)
 
-    pub sums_more : (sums : List ℕ) → AreBooked cpus parts sums → g < most_groups → AreBooked cpus (with_at parts q new) (slice_set sums g (get_or sums g 0 + k))
+    pub sums_more : {room : ℕ} (sums : List ℕ) → AreBooked room cpus parts sums → g < room → AreBooked room cpus (with_at parts q new) (slice_set sums g (get_or sums g 0 + k))
     sums_more sums are fits = sums_else cpus parts (with_at parts q new) sums g (get_or sums g 0 + k) are fits
-        (let a = are.each g fits in let b = books_more g in let z : cond (g == g) k 0 ≡ k = cond-true (g == g) k 0 (eq-eqb g g refl) in omega (arith, a, b, z))
+        (let a = are.each g in let b = books_more g in let z : cond (g == g) k 0 ≡ k = cond-true (g == g) k 0 (eq-eqb g g refl) in omega (arith, a, b, z))
         (λ h ne. let b = books_more h in let z : cond (h == g) k 0 ≡ 0 = cond-false (h == g) k 0 (ne_eqb h g ne) in omega (arith, b, z))

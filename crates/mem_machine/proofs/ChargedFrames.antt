@@ -5,10 +5,10 @@ use Rattle.std.proofs.lemmas.Bool.{cases_lt, eq-eqb, ne_eqb}
 use Rattle.std.proofs.lemmas.List.{take_all}
 use Rattle.std.proofs.lemmas.List.Sums.{sum_by-append}
 use Rattle.std.proofs.Math.Seq.{take-suc}
-use Rattle.group_tree.specs.Bounds.{most_groups}
+use Rattle.group_tree.specs.Groups.{room_of}
+use Rattle.group_tree.proofs.CallerLemmas.{number_in_room}
 use Rattle.group_charge.specs.Charges.{AreCharges}
 use Rattle.step_rules.specs.State.{one_if, sum_to}
-use Rattle.step_rules.proofs.Homes.{number_low}
 use Rattle.step_rules.proofs.Sums.{sum_none, sum_only, sum_same, sum_swap}
 use Rattle.boot_words.specs.Tables.{KnownTable}
 use Rattle.mem_machine.specs.declared.frame_state.FrameState.{FrameState}
@@ -35,29 +35,30 @@ sum_over h frame_states (suc k) within =
     let both = sum_by-append h (take k frame_states) (frame_state_at frame_states k ∷ []) in
     omega (arith, rest, more, both)
 
--- the group that a frame is charged to has a group's number
-group_low : (s : FrameState) → ((g : ℕ) → place_of s ≡ place.Charged g → g < most_groups) → IfSome (frame_state_group s) (λ g. g < most_groups)
-group_low Free low = tt
-group_low (Lent p) low = tt
-group_low (Head unit) low = low unit.group refl
-group_low (Tail g) low = low g refl
+-- the group that a frame is charged to has a number below this
+group_low : (room : ℕ) (s : FrameState) → ((g : ℕ) → place_of s ≡ place.Charged g → g < room) → IfSome (frame_state_group s) (λ g. g < room)
+group_low room Free low = tt
+group_low room (Lent p) low = tt
+group_low room (Head unit) low = low unit.group refl
+group_low room (Tail g) low = low g refl
 
 -- what is charged to the groups are all frames that are charged
 all_charged : (t : KnownTable) (m : KnownMachine) → IsConsistent t m → AreCharges m.ledger
-    → sum_to most_groups (frames_charged m.frame_states) ≡ frames_in_groups m.frame_states
+    → sum_to (room_of m.ledger.groups) (frames_charged m.frame_states) ≡ frames_in_groups m.frame_states
 all_charged t m ok legal =
     let n : ℕ = length m.frame_states in
-    sum_swap most_groups n (λ g f. one_if_is g (frame_state_group (frame_state_at m.frame_states f)))
-    ∙ sum_same n (λ f. sum_to most_groups (λ g. one_if_is g (frame_state_group (frame_state_at m.frame_states f)))) (λ f. one_if (is_some (frame_state_group (frame_state_at m.frame_states f))))
-    (λ f inside. one_number most_groups (frame_state_group (frame_state_at m.frame_states f)) (low f inside))
+    let room : ℕ = room_of m.ledger.groups in
+    sum_swap room n (λ g f. one_if_is g (frame_state_group (frame_state_at m.frame_states f)))
+    ∙ sum_same n (λ f. sum_to room (λ g. one_if_is g (frame_state_group (frame_state_at m.frame_states f)))) (λ f. one_if (is_some (frame_state_group (frame_state_at m.frame_states f))))
+    (λ f inside. one_number room (frame_state_group (frame_state_at m.frame_states f)) (low f inside))
     ∙ sum_over (λ s. one_if (is_some (frame_state_group s))) m.frame_states n (omega arith)
     ∙ ap frames_in_groups (take_all n m.frame_states (omega arith))
   where
-    low : (f : ℕ) → f < length m.frame_states → IfSome (frame_state_group (frame_state_at m.frame_states f)) (λ g. g < most_groups)
+    low : (f : ℕ) → f < length m.frame_states → IfSome (frame_state_group (frame_state_at m.frame_states f)) (λ g. g < room_of m.ledger.groups)
     low f inside =
         let sized = ok.sizes.frame_states in
         let below : f < t.frames = omega arith in
-        group_low (frame_state_at m.frame_states f) (λ g is. number_low m.ledger.groups g legal.groups (keeper_there t m f g ok legal below is))
+        group_low (room_of m.ledger.groups) (frame_state_at m.frame_states f) (λ g is. number_in_room m.ledger.groups g legal.groups (keeper_there t m f g ok legal below is))
 
 one_at_most : (b : Bool) → one_if b ≤ 1
 one_at_most true = omega arith
@@ -82,9 +83,9 @@ sum_grows (suc m) k h le = elim (cases_lt k (suc m)) [
 
 -- the first groups have no more frames than the zone
 some_charged : (t : KnownTable) (m : KnownMachine) → IsConsistent t m → AreCharges m.ledger
-    → (k : ℕ) → k ≤ most_groups → sum_to k (frames_charged m.frame_states) ≤ t.frames
+    → (k : ℕ) → k ≤ room_of m.ledger.groups → sum_to k (frames_charged m.frame_states) ≤ t.frames
 some_charged t m ok legal k le =
-    let grows = sum_grows most_groups k (frames_charged m.frame_states) le in
+    let grows = sum_grows (room_of m.ledger.groups) k (frames_charged m.frame_states) le in
     let all = all_charged t m ok legal in
     let few = charged_few m.frame_states in
     let sized = ok.sizes.frame_states in
@@ -92,18 +93,18 @@ some_charged t m ok legal k le =
 
 -- What the first groups are charged for: with one more its frames more, at most the frames of the zone, and of all
 -- groups the frames that are charged
-pub record AreCounted (frames : ℕ) (frame_states : List FrameState) : Type 0 where
+pub record AreCounted (room frames : ℕ) (frame_states : List FrameState) : Type 0 where
   pub next : (k : ℕ) → sum_to (k + 1) (frames_charged frame_states) ≡ sum_to k (frames_charged frame_states) + frames_charged frame_states k
-  pub within : (k : ℕ) → k ≤ most_groups → sum_to k (frames_charged frame_states) ≤ frames
-  pub all : sum_to most_groups (frames_charged frame_states) ≡ frames_in_groups frame_states
+  pub within : (k : ℕ) → k ≤ room → sum_to k (frames_charged frame_states) ≤ frames
+  pub all : sum_to room (frames_charged frame_states) ≡ frames_in_groups frame_states
 
 sum_next : (k : ℕ) (h : ℕ → ℕ) → sum_to (k + 1) h ≡ sum_to k h + h k
 unfolding sum_to
 sum_next k h = let e : k + 1 ≡ suc k = omega arith in rw e refl
 
 pub are_counted : (t : KnownTable) (m now : KnownMachine) → m ≡ now → IsConsistent t m → AreCharges m.ledger
-    → AreCounted t.frames now.frame_states
-are_counted t m now same ok legal = subst (λ (x : KnownMachine). AreCounted t.frames x.frame_states) same (record {
+    → AreCounted (room_of now.ledger.groups) t.frames now.frame_states
+are_counted t m now same ok legal = subst (λ (x : KnownMachine). AreCounted (room_of x.ledger.groups) t.frames x.frame_states) same (record {
   next = λ k. sum_next k (frames_charged m.frame_states);
   within = some_charged t m ok legal;
   all = all_charged t m ok legal;

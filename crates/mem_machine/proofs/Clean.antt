@@ -6,7 +6,7 @@ use Rattle.std.proofs.lemmas.Bool.{cases_eq, ne_eqb, cond-true, cond-false}
 use Rattle.std.proofs.lemmas.Option.{none-some}
 use Rattle.std.proofs.lemmas.Nat.{pow_pos}
 use Rattle.std.proofs.lemmas.List.{get_or-set_same, get_or-set_other, length-replicate, length-set}
-use Rattle.group_tree.specs.Bounds.{most_groups}
+use Rattle.group_tree.specs.Groups.{room_of}
 use Rattle.lru_lists.specs.declared.record.Link.{Link}
 use Rattle.lru_lists.specs.declared.record.Home.{Home}
 use Rattle.lru_lists.specs.{link_at, nowhere, owner_of, AreNowhere, SameOwners, SameUse}
@@ -81,27 +81,28 @@ clean_few states links units g = sum_few (length states) 1024 (counted states li
 
 -- ---- the counts
 
-pub clean_first : (states : List FrameState) (links : List Link) → AreNowhere links → AreCleanCounts states links (replicate most_groups 0)
-clean_first states links none = record {
-  size = length-replicate {A = ℕ} most_groups 0;
-  each = λ g low. repeated most_groups g 0 ∙ sym (sum_none (length states) (counted states links g)
+pub clean_first : (states : List FrameState) (links : List Link) → AreNowhere links → (marks : List Bool) (room : ℕ) → marks ≡ replicate room false
+    → (counts : List ℕ) → counts ≡ replicate room 0 → AreCleanCounts (length marks) states links counts
+clean_first states links none marks room unmarked counts zeros = record {
+  size = ap length zeros ∙ length-replicate {A = ℕ} room 0 ∙ sym (ap length unmarked ∙ length-replicate room false);
+  each = λ g. ap (λ (l : List ℕ). get_or l g 0) zeros ∙ repeated room g 0 ∙ sym (sum_none (length states) (counted states links g)
       (λ f inside. away_counts states links g f (ap (λ (l : Link). l.home) (none f))));
 }
 
 -- each frame counts as before
-same_counts : (before after : List FrameState) (links now : List Link) (counts : List ℕ) → length after ≡ length before
-    → ((g f : ℕ) → f < length before → counted after now g f ≡ counted before links g f) → AreCleanCounts before links counts
-    → AreCleanCounts after now counts
+same_counts : {room : ℕ} (before after : List FrameState) (links now : List Link) (counts : List ℕ) → length after ≡ length before
+    → ((g f : ℕ) → f < length before → counted after now g f ≡ counted before links g f) → AreCleanCounts room before links counts
+    → AreCleanCounts room after now counts
 same_counts before after links now counts size same are = record {
   size = are.size;
-  each = λ g low. are.each g low ∙ sym (ap (λ (n : ℕ). sum_to n (counted after now g)) size
+  each = λ g. are.each g ∙ sym (ap (λ (n : ℕ). sum_to n (counted after now g)) size
       ∙ sum_same (length before) (counted after now g) (counted before links g) (same g));
 }
 
 -- only records of frames on no list change
-pub clean_states : (before after : List FrameState) (links : List Link) (counts : List ℕ) → length after ≡ length before
+pub clean_states : {room : ℕ} (before after : List FrameState) (links : List Link) (counts : List ℕ) → length after ≡ length before
     → ((f : ℕ) → f < length before → (frame_state_at after f ≡ frame_state_at before f) ⊎ (home_of links f ≡ None))
-    → AreCleanCounts before links counts → AreCleanCounts after links counts
+    → AreCleanCounts room before links counts → AreCleanCounts room after links counts
 clean_states before after links counts size each are = same_counts before after links links counts size same are
   where
     same : (g f : ℕ) → f < length before → counted after links g f ≡ counted before links g f
@@ -111,8 +112,8 @@ clean_states before after links counts size each are = same_counts before after 
     ]
 
 -- each frame is on a list of the same owner, and as dirty
-pub clean_owners : (states : List FrameState) (before after : List Link) (counts : List ℕ) → SameOwners before after
-    → AreCleanCounts states before counts → AreCleanCounts states after counts
+pub clean_owners : {room : ℕ} (states : List FrameState) (before after : List Link) (counts : List ℕ) → SameOwners before after
+    → AreCleanCounts room states before counts → AreCleanCounts room states after counts
 clean_owners states before after counts owners are = same_counts states states before after counts refl
     (λ g f inside. λ i. pages_if_is g (cond (owners.dirty f i) None (owners.owner f i)) (pages_headed (frame_state_at states f))) are
 
@@ -137,64 +138,64 @@ module _ (states : List FrameState) (before after : List Link) (f : ℕ) (unit :
       omega (arith, a, b, c, d)
 
 -- a clean unit is in the count of its group
-pub clean_has : (states : List FrameState) (links : List Link) (f : ℕ) (unit : ChargedUnit) → f < length states → frame_state_at states f ≡ Head unit
-    → (counts : List ℕ) → AreCleanCounts states links counts → unit.group < most_groups → clean_owner (link_at links f) ≡ Some unit.group
+pub clean_has : {room : ℕ} (states : List FrameState) (links : List Link) (f : ℕ) (unit : ChargedUnit) → f < length states → frame_state_at states f ≡ Head unit
+    → (counts : List ℕ) → AreCleanCounts room states links counts → clean_owner (link_at links f) ≡ Some unit.group
     → 2 ^ unit.order ≤ get_or counts unit.group 0
-clean_has states links f unit inside heads counts are low was =
+clean_has states links f unit inside heads counts are was =
     let a = sum_part (length states) (counted states links unit.group) f inside in
     let b : counted states links unit.group f ≡ pages_if_is unit.group (Some unit.group) (2 ^ unit.order) = λ k. pages_if_is unit.group (was k) (pages_headed (heads k)) in
     let c = own_pages unit.group unit.group (2 ^ unit.order) refl in
-    let d = are.each unit.group low in
+    let d = are.each unit.group in
     omega (arith, a, b, c, d)
 
 -- a unit joined or left, or became clean or dirty
-module _ (states : List FrameState) (before after : List Link) (f : ℕ) (unit : ChargedUnit) (used : SameUse before after f) (inside : f < length states)
-    (heads : frame_state_at states f ≡ Head unit) (counts : List ℕ) (are : AreCleanCounts states before counts) (low : unit.group < most_groups) where
-  pub clean_more : clean_owner (link_at before f) ≡ None → clean_owner (link_at after f) ≡ Some unit.group → AreCleanCounts states after (clean_joined unit.group unit.order counts)
+module _ {room : ℕ} (states : List FrameState) (before after : List Link) (f : ℕ) (unit : ChargedUnit) (used : SameUse before after f) (inside : f < length states)
+    (heads : frame_state_at states f ≡ Head unit) (counts : List ℕ) (are : AreCleanCounts room states before counts) (low : unit.group < room) where
+  pub clean_more : clean_owner (link_at before f) ≡ None → clean_owner (link_at after f) ≡ Some unit.group → AreCleanCounts room states after (clean_joined unit.group unit.order counts)
   clean_more was now = record {
     size = length-set counts unit.group (get_or counts unit.group 0 + 2 ^ unit.order) ∙ are.size;
-    each = λ g fits. elim (cases_eq g unit.group) [
+    each = λ g. elim (cases_eq g unit.group) [
       | inl e ↦
           let a = clean_then states before after f unit used inside heads None (Some unit.group) was now unit.group in
           let b = own_pages unit.group unit.group (2 ^ unit.order) refl in
-          let c = are.each unit.group low in
+          let c = are.each unit.group in
           let d = get_or-set_same counts unit.group (get_or counts unit.group 0 + 2 ^ unit.order) 0 (let s = are.size in omega (arith, s, low)) in
           subst (λ (k : ℕ). get_or (clean_joined unit.group unit.order counts) k 0 ≡ clean_pages_in states after k) (sym e) (omega (arith, a, b, c, d))
       | inr ne ↦
           let a = clean_then states before after f unit used inside heads None (Some unit.group) was now g in
           let b = other_pages g unit.group (2 ^ unit.order) ne in
-          let c = are.each g fits in
+          let c = are.each g in
           let d = get_or-set_other counts unit.group g (get_or counts unit.group 0 + 2 ^ unit.order) 0 ne in
           omega (arith, a, b, c, d)
     ];
   }
 
-  pub clean_fewer : clean_owner (link_at before f) ≡ Some unit.group → clean_owner (link_at after f) ≡ None → AreCleanCounts states after (clean_left false unit.group unit.order counts)
+  pub clean_fewer : clean_owner (link_at before f) ≡ Some unit.group → clean_owner (link_at after f) ≡ None → AreCleanCounts room states after (clean_left false unit.group unit.order counts)
   clean_fewer was now = record {
     size = length-set counts unit.group (get_or counts unit.group 0 - 2 ^ unit.order) ∙ are.size;
-    each = λ g fits. elim (cases_eq g unit.group) [
+    each = λ g. elim (cases_eq g unit.group) [
       | inl e ↦
           let a = clean_then states before after f unit used inside heads (Some unit.group) None was now unit.group in
           let b = own_pages unit.group unit.group (2 ^ unit.order) refl in
-          let c = are.each unit.group low in
+          let c = are.each unit.group in
           let d = get_or-set_same counts unit.group (get_or counts unit.group 0 - 2 ^ unit.order) 0 (let s = are.size in omega (arith, s, low)) in
-          let has = clean_has states before f unit inside heads counts are low was in
+          let has = clean_has states before f unit inside heads counts are was in
           subst (λ (k : ℕ). get_or (clean_left false unit.group unit.order counts) k 0 ≡ clean_pages_in states after k) (sym e) (omega (arith, a, b, c, d, has))
       | inr ne ↦
           let a = clean_then states before after f unit used inside heads (Some unit.group) None was now g in
           let b = other_pages g unit.group (2 ^ unit.order) ne in
-          let c = are.each g fits in
+          let c = are.each g in
           let d = get_or-set_other counts unit.group g (get_or counts unit.group 0 - 2 ^ unit.order) 0 ne in
           omega (arith, a, b, c, d)
     ];
   }
 
-  pub clean_same : clean_owner (link_at after f) ≡ clean_owner (link_at before f) → AreCleanCounts states after counts
+  pub clean_same : clean_owner (link_at after f) ≡ clean_owner (link_at before f) → AreCleanCounts room states after counts
   clean_same same = record {
     size = are.size;
-    each = λ g fits.
+    each = λ g.
         let a = clean_then states before after f unit used inside heads (clean_owner (link_at before f)) (clean_owner (link_at before f)) refl same g in
-        let c = are.each g fits in
+        let c = are.each g in
         omega (arith, a, c);
   }
 
@@ -210,59 +211,59 @@ pub away_clean : (links : List Link) (f : ℕ) → home_of links f ≡ None → 
 away_clean links f none = no_owner (link_at links f).is_dirty (owner_of (link_at links f).home) (away_owner (link_at links f).home none)
 
 -- the group of a unit on a list is the owner of the list
-pub listed_owner : (h : Option Home) (s : FrameState) (unit : ChargedUnit) → h ≢ None → FitsFrameState h s → s ≡ Head unit → (unit.group < most_groups) × (owner_of h ≡ Some unit.group)
-listed_owner None s unit kept fits heads = absurd (kept refl)
-listed_owner (Some home) s unit kept fits heads =
+pub listed_owner : (room : ℕ) (h : Option Home) (s : FrameState) (unit : ChargedUnit) → h ≢ None → FitsFrameState room h s → s ≡ Head unit → (unit.group < room) × (owner_of h ≡ Some unit.group)
+listed_owner room None s unit kept fits heads = absurd (kept refl)
+listed_owner room (Some home) s unit kept fits heads =
     let same : Some unit.group ≡ Some home.owner = ap head_group_of (sym heads) ∙ fits.1 in
-    (subst (λ (o : Option ℕ). IfSome o (λ g. g < most_groups)) (sym same) fits.0, sym same)
+    (subst (λ (o : Option ℕ). IfSome o (λ g. g < room)) (sym same) fits.0, sym same)
 
 -- a unit left its list
-pub clean_gone : (states : List FrameState) (before after : List Link) (f : ℕ) (unit : ChargedUnit) → SameUse before after f → f < length states
-    → frame_state_at states f ≡ Head unit → (counts : List ℕ) → AreCleanCounts states before counts → home_of before f ≢ None
-    → FitsFrameState (home_of before f) (frame_state_at states f) → link_at after f ≡ nowhere → (d : Bool) → (link_at before f).is_dirty ≡ d
-    → AreCleanCounts states after (clean_left d unit.group unit.order counts)
-clean_gone states before after f unit used inside heads counts are kept fits gone true dirty =
-    let owner = listed_owner (home_of before f) (frame_state_at states f) unit kept fits heads in
+pub clean_gone : {room : ℕ} (states : List FrameState) (before after : List Link) (f : ℕ) (unit : ChargedUnit) → SameUse before after f → f < length states
+    → frame_state_at states f ≡ Head unit → (counts : List ℕ) → AreCleanCounts room states before counts → home_of before f ≢ None
+    → FitsFrameState room (home_of before f) (frame_state_at states f) → link_at after f ≡ nowhere → (d : Bool) → (link_at before f).is_dirty ≡ d
+    → AreCleanCounts room states after (clean_left d unit.group unit.order counts)
+clean_gone {room} states before after f unit used inside heads counts are kept fits gone true dirty =
+    let owner = listed_owner room (home_of before f) (frame_state_at states f) unit kept fits heads in
     clean_same states before after f unit used inside heads counts are owner.0
     (ap clean_owner gone ∙ sym (dirty_owner (link_at before f).is_dirty (owner_of (home_of before f)) dirty))
-clean_gone states before after f unit used inside heads counts are kept fits gone false dirty =
-    let owner = listed_owner (home_of before f) (frame_state_at states f) unit kept fits heads in
+clean_gone {room} states before after f unit used inside heads counts are kept fits gone false dirty =
+    let owner = listed_owner room (home_of before f) (frame_state_at states f) unit kept fits heads in
     clean_fewer states before after f unit used inside heads counts are owner.0
     (clean_owner_is (link_at before f).is_dirty (owner_of (home_of before f)) unit.group dirty owner.1) (ap clean_owner gone)
 
 -- a clean unit is counted before it leaves
-pub clean_there : (states : List FrameState) (links : List Link) (f : ℕ) (unit : ChargedUnit) → f < length states → frame_state_at states f ≡ Head unit
-    → (counts : List ℕ) → AreCleanCounts states links counts → home_of links f ≢ None → FitsFrameState (home_of links f) (frame_state_at states f)
+pub clean_there : {room : ℕ} (states : List FrameState) (links : List Link) (f : ℕ) (unit : ChargedUnit) → f < length states → frame_state_at states f ≡ Head unit
+    → (counts : List ℕ) → AreCleanCounts room states links counts → home_of links f ≢ None → FitsFrameState room (home_of links f) (frame_state_at states f)
     → (link_at links f).is_dirty ≡ false → 2 ^ unit.order ≤ get_or counts unit.group 0
-clean_there states links f unit inside heads counts are kept fits dirty =
-    let owner = listed_owner (home_of links f) (frame_state_at states f) unit kept fits heads in
-    clean_has states links f unit inside heads counts are owner.0
+clean_there {room} states links f unit inside heads counts are kept fits dirty =
+    let owner = listed_owner room (home_of links f) (frame_state_at states f) unit kept fits heads in
+    clean_has states links f unit inside heads counts are
     (clean_owner_is (link_at links f).is_dirty (owner_of (home_of links f)) unit.group dirty owner.1)
 
 -- a unit joined its list
-pub clean_kept : (states : List FrameState) (before after : List Link) (f : ℕ) (unit : ChargedUnit) → SameUse before after f → f < length states
-    → frame_state_at states f ≡ Head unit → (counts : List ℕ) → AreCleanCounts states before counts → unit.group < most_groups → home_of before f ≡ None
+pub clean_kept : {room : ℕ} (states : List FrameState) (before after : List Link) (f : ℕ) (unit : ChargedUnit) → SameUse before after f → f < length states
+    → frame_state_at states f ≡ Head unit → (counts : List ℕ) → AreCleanCounts room states before counts → unit.group < room → home_of before f ≡ None
     → owner_of (home_of after f) ≡ Some unit.group → (link_at after f).is_dirty ≡ false
-    → AreCleanCounts states after (clean_joined unit.group unit.order counts)
+    → AreCleanCounts room states after (clean_joined unit.group unit.order counts)
 clean_kept states before after f unit used inside heads counts are low away owner clean =
     clean_more states before after f unit used inside heads counts are low (away_clean before f away)
     (clean_owner_is (link_at after f).is_dirty (owner_of (home_of after f)) unit.group clean owner)
 
 -- a unit on a list is dirty or clean
-pub clean_marked : (states : List FrameState) (before after : List Link) (f : ℕ) (unit : ChargedUnit) → SameUse before after f → f < length states
-    → frame_state_at states f ≡ Head unit → (counts : List ℕ) → AreCleanCounts states before counts → home_of before f ≢ None
-    → FitsFrameState (home_of before f) (frame_state_at states f) → home_of after f ≡ home_of before f
+pub clean_marked : {room : ℕ} (states : List FrameState) (before after : List Link) (f : ℕ) (unit : ChargedUnit) → SameUse before after f → f < length states
+    → frame_state_at states f ≡ Head unit → (counts : List ℕ) → AreCleanCounts room states before counts → home_of before f ≢ None
+    → FitsFrameState room (home_of before f) (frame_state_at states f) → home_of after f ≡ home_of before f
     → (was now : Bool) → (link_at before f).is_dirty ≡ was → (link_at after f).is_dirty ≡ now
-    → AreCleanCounts states after (clean_dirtied was now unit.group unit.order counts)
-clean_marked states before after f unit used inside heads counts are kept fits home was now was_is now_is = by was now was_is now_is
+    → AreCleanCounts room states after (clean_dirtied was now unit.group unit.order counts)
+clean_marked {room} states before after f unit used inside heads counts are kept fits home was now was_is now_is = by was now was_is now_is
   where
-    owner : (unit.group < most_groups) × (owner_of (home_of before f) ≡ Some unit.group)
-    owner = listed_owner (home_of before f) (frame_state_at states f) unit kept fits heads
+    owner : (unit.group < room) × (owner_of (home_of before f) ≡ Some unit.group)
+    owner = listed_owner room (home_of before f) (frame_state_at states f) unit kept fits heads
 
     same : (d : Bool) → (link_at before f).is_dirty ≡ d → (link_at after f).is_dirty ≡ d → clean_owner (link_at after f) ≡ clean_owner (link_at before f)
     same d a b = λ k. cond ((b ∙ sym a) k) None (owner_of (home k))
 
-    by : (was now : Bool) → (link_at before f).is_dirty ≡ was → (link_at after f).is_dirty ≡ now → AreCleanCounts states after (clean_dirtied was now unit.group unit.order counts)
+    by : (was now : Bool) → (link_at before f).is_dirty ≡ was → (link_at after f).is_dirty ≡ now → AreCleanCounts room states after (clean_dirtied was now unit.group unit.order counts)
     by true true a b = clean_same states before after f unit used inside heads counts are owner.0 (same true a b)
     by false false a b = clean_same states before after f unit used inside heads counts are owner.0 (same false a b)
     by false true a b = clean_fewer states before after f unit used inside heads counts are owner.0
@@ -274,27 +275,27 @@ clean_marked states before after f unit used inside heads counts are kept fits h
 
 -- ---- frames that are freed or lent were on no list
 
-head_away : (h : Option Home) (s : FrameState) → FitsFrameState h s → head_group_of s ≡ None → h ≡ None
-head_away None s fits none = refl
-head_away (Some home) s fits none = absurd (none-some home.owner (sym none ∙ fits.1))
+head_away : (room : ℕ) (h : Option Home) (s : FrameState) → FitsFrameState room h s → head_group_of s ≡ None → h ≡ None
+head_away room None s fits none = refl
+head_away room (Some home) s fits none = absurd (none-some home.owner (sym none ∙ fits.1))
 
 -- of frames on no list afterwards, the record may have changed
-pub clean_freed : (before after : List FrameState) (links : List Link) (counts : List ℕ) (at count : ℕ) → FreesFrames at count before after
-    → ((f : ℕ) → f < length after → FitsFrameState (home_of links f) (frame_state_at after f))
-    → AreCleanCounts before links counts → AreCleanCounts after links counts
-clean_freed before after links counts at count frees fits are = clean_states before after links counts frees.frames each are
+pub clean_freed : {room : ℕ} (fit : ℕ) (before after : List FrameState) (links : List Link) (counts : List ℕ) (at count : ℕ) → FreesFrames at count before after
+    → ((f : ℕ) → f < length after → FitsFrameState fit (home_of links f) (frame_state_at after f))
+    → AreCleanCounts room before links counts → AreCleanCounts room after links counts
+clean_freed fit before after links counts at count frees fits are = clean_states before after links counts frees.frames each are
   where
     decide : (f : ℕ) → f < length before → (b : Bool) → frame_state_at after f ≡ cond b Free (frame_state_at before f)
         → (frame_state_at after f ≡ frame_state_at before f) ⊎ (home_of links f ≡ None)
-    decide f inside true is = inr (head_away (home_of links f) (frame_state_at after f) (fits f (let s = frees.frames in omega (arith, s, inside))) (ap head_group_of is))
+    decide f inside true is = inr (head_away fit (home_of links f) (frame_state_at after f) (fits f (let s = frees.frames in omega (arith, s, inside))) (ap head_group_of is))
     decide f inside false is = inl is
 
     each : (f : ℕ) → f < length before → (frame_state_at after f ≡ frame_state_at before f) ⊎ (home_of links f ≡ None)
     each f inside = decide f inside (is_within at count f) (frees.records f)
 
 -- one record changes, of a frame that headed no unit
-pub clean_set : (states : List FrameState) (links : List Link) (counts : List ℕ) (f : ℕ) (s : FrameState) → home_of links f ≡ None
-    → AreCleanCounts states links counts → AreCleanCounts (slice_set states f s) links counts
+pub clean_set : {room : ℕ} (states : List FrameState) (links : List Link) (counts : List ℕ) (f : ℕ) (s : FrameState) → home_of links f ≡ None
+    → AreCleanCounts room states links counts → AreCleanCounts room (slice_set states f s) links counts
 clean_set states links counts f s away are = clean_states states (slice_set states f s) links counts (length-set states f s)
     (λ i inside. elim (cases_eq i f) [
       | inl e ↦ inr (ap (home_of links) e ∙ away)
@@ -304,27 +305,31 @@ clean_set states links counts f s away are = clean_states states (slice_set stat
 -- ---- of a consistent machine
 
 pub fits_here : (t : KnownTable) (m : KnownMachine) → IsConsistent t m → (f : ℕ) → f < length m.frame_states
-    → FitsFrameState (home_of m.links f) (frame_state_at m.frame_states f)
+    → FitsFrameState (room_of m.ledger.groups) (home_of m.links f) (frame_state_at m.frame_states f)
 fits_here t m ok f inside = ok.frame_states f (let s = ok.sizes.frame_states in omega (arith, s, inside))
 
+-- there are as many counts as marks
+fits_counted : (t : KnownTable) (m : KnownMachine) → IsConsistent t m → (f : ℕ) → f < t.frames → FitsFrameState (length m.killed) (home_of m.links f) (frame_state_at m.frame_states f)
+fits_counted t m ok f inside = subst (λ (room : ℕ). FitsFrameState room (home_of m.links f) (frame_state_at m.frame_states f)) (sym ok.sizes.killed) (ok.frame_states f inside)
+
 -- no count is above 1,024 pages for each frame
-pub clean_room : (t : KnownTable) (m : KnownMachine) → IsConsistent t m → (counts : List ℕ) → AreCleanCounts m.frame_states m.links counts
-    → (g : ℕ) → g < most_groups → get_or counts g 0 ≤ length m.links * 1024
-clean_room t m ok counts are g low =
-    let a = are.each g low in
+pub clean_room : {room : ℕ} (t : KnownTable) (m : KnownMachine) → IsConsistent t m → (counts : List ℕ) → AreCleanCounts room m.frame_states m.links counts
+    → (g : ℕ) → get_or counts g 0 ≤ length m.links * 1024
+clean_room t m ok counts are g =
+    let a = are.each g in
     let b = clean_few m.frame_states m.links ok.units g in
     let c = ok.sizes.frame_states in
     let d = ok.sizes.links in
     omega (arith, a, b, c, d)
 
 -- frames of a unit were freed
-pub clean_after_free : (t : KnownTable) (n : KnownMachine) → IsConsistent t n → (before : List FrameState) (counts : List ℕ) (at count : ℕ)
-    → FreesFrames at count before n.frame_states → AreCleanCounts before n.links counts → AreCleanCounts n.frame_states n.links counts
-clean_after_free t n ok before counts at count frees are = clean_freed before n.frame_states n.links counts at count frees (fits_here t n ok) are
+pub clean_after_free : {room : ℕ} (t : KnownTable) (n : KnownMachine) → IsConsistent t n → (before : List FrameState) (counts : List ℕ) (at count : ℕ)
+    → FreesFrames at count before n.frame_states → AreCleanCounts room before n.links counts → AreCleanCounts room n.frame_states n.links counts
+clean_after_free t n ok before counts at count frees are = clean_freed (room_of n.ledger.groups) before n.frame_states n.links counts at count frees (fits_here t n ok) are
 
 -- one frame was lent, or came back: its record heads no unit
-pub clean_after_set : (t : KnownTable) (n : KnownMachine) → IsConsistent t n → (before : List FrameState) (counts : List ℕ) (f : ℕ) (s : FrameState)
-    → n.frame_states ≡ slice_set before f s → head_group_of s ≡ None → AreCleanCounts before n.links counts → AreCleanCounts n.frame_states n.links counts
+pub clean_after_set : {room : ℕ} (t : KnownTable) (n : KnownMachine) → IsConsistent t n → (before : List FrameState) (counts : List ℕ) (f : ℕ) (s : FrameState)
+    → n.frame_states ≡ slice_set before f s → head_group_of s ≡ None → AreCleanCounts room before n.links counts → AreCleanCounts room n.frame_states n.links counts
 clean_after_set t n ok before counts f s set none are = clean_states before n.frame_states n.links counts size each are
   where
     size : length n.frame_states ≡ length before
@@ -335,45 +340,45 @@ clean_after_set t n ok before counts f s set none are = clean_states before n.fr
       | inl e ↦
           let at : frame_state_at n.frame_states i ≡ s = ap (λ (l : List FrameState). frame_state_at l i) set ∙ ap (λ (k : ℕ). frame_state_at (slice_set before f s) k) e
           ∙ get_or-set_same before f s Free (subst (λ (k : ℕ). k < length before) e inside) in
-          inr (head_away (home_of n.links i) (frame_state_at n.frame_states i) (fits_here t n ok i (omega (arith, size, inside))) (ap head_group_of at ∙ none))
+          inr (head_away (room_of n.ledger.groups) (home_of n.links i) (frame_state_at n.frame_states i) (fits_here t n ok i (omega (arith, size, inside))) (ap head_group_of at ∙ none))
       | inr ne ↦ inl (ap (λ (l : List FrameState). frame_state_at l i) set ∙ get_or-set_other before f i s Free ne)
     ]
 
 -- a unit left its list, as the calls see it
 pub clean_left_here : (t : KnownTable) (m now : KnownMachine) → m ≡ now → IsConsistent t m → (f i : ℕ) → f < t.frames → i ≡ f → home_of now.links f ≢ None
-    → (unit : ChargedUnit) → frame_state_at m.frame_states i ≡ Head unit → (counts : List ℕ) → AreCleanCounts m.frame_states m.links counts
+    → (unit : ChargedUnit) → frame_state_at m.frame_states i ≡ Head unit → (counts : List ℕ) → AreCleanCounts (length m.killed) m.frame_states m.links counts
     → (links : List Link) (lists : List Lru) → LeavesList i (lists_of m) (group_lists links lists)
-    → AreCleanCounts m.frame_states links (clean_left (link_at m.links i).is_dirty unit.group unit.order counts)
+    → AreCleanCounts (length m.killed) m.frame_states links (clean_left (link_at m.links i).is_dirty unit.group unit.order counts)
 clean_left_here t m now same ok f i inside is kept unit heads counts are links lists leaves =
     let here = subst (λ (k : ℕ). LeavesList k (lists_of m) (group_lists links lists)) is leaves in
     let s = ok.sizes.frame_states in
-    subst (λ (k : ℕ). AreCleanCounts m.frame_states links (clean_left (link_at m.links k).is_dirty unit.group unit.order counts)) (sym is)
+    subst (λ (k : ℕ). AreCleanCounts (length m.killed) m.frame_states links (clean_left (link_at m.links k).is_dirty unit.group unit.order counts)) (sym is)
     (clean_gone m.frame_states m.links links f unit here.used (omega (arith, s, inside)) (subst (λ (k : ℕ). frame_state_at m.frame_states k ≡ Head unit) is heads) counts are
-    (subst (λ (x : KnownMachine). home_of x.links f ≢ None) (sym same) kept) (ok.frame_states f inside) here.forgotten (link_at m.links f).is_dirty refl)
+    (subst (λ (x : KnownMachine). home_of x.links f ≢ None) (sym same) kept) (fits_counted t m ok f inside) here.forgotten (link_at m.links f).is_dirty refl)
 
 -- a clean unit is counted, as the calls see it
 pub clean_there_here : (t : KnownTable) (m now : KnownMachine) → m ≡ now → IsConsistent t m → (f i : ℕ) → f < t.frames → i ≡ f → home_of now.links f ≢ None
-    → (unit : ChargedUnit) → frame_state_at m.frame_states i ≡ Head unit → (counts : List ℕ) → AreCleanCounts m.frame_states m.links counts
+    → (unit : ChargedUnit) → frame_state_at m.frame_states i ≡ Head unit → (counts : List ℕ) → AreCleanCounts (length m.killed) m.frame_states m.links counts
     → (link_at m.links i).is_dirty ≡ false → 2 ^ unit.order ≤ get_or counts unit.group 0
 clean_there_here t m now same ok f i inside is kept unit heads counts are clean =
     let s = ok.sizes.frame_states in
     clean_there m.frame_states m.links f unit (omega (arith, s, inside)) (subst (λ (k : ℕ). frame_state_at m.frame_states k ≡ Head unit) is heads) counts are
-    (subst (λ (x : KnownMachine). home_of x.links f ≢ None) (sym same) kept) (ok.frame_states f inside)
+    (subst (λ (x : KnownMachine). home_of x.links f ≢ None) (sym same) kept) (fits_counted t m ok f inside)
     (subst (λ (k : ℕ). (link_at m.links k).is_dirty ≡ false) is clean)
 
 -- a frame became a unit of its own, and joined its group's list
-pub clean_kept_here : (states : List FrameState) (links after : List Link) (f : ℕ) (unit : ChargedUnit) (counts : List ℕ) → f < length states
-    → SameUse links after f → (link_at after f).is_dirty ≡ false → home_of links f ≡ None → owner_of (home_of after f) ≡ Some unit.group → unit.group < most_groups
-    → AreCleanCounts states links counts → AreCleanCounts (slice_set states f (Head unit)) after (clean_joined unit.group unit.order counts)
+pub clean_kept_here : {room : ℕ} (states : List FrameState) (links after : List Link) (f : ℕ) (unit : ChargedUnit) (counts : List ℕ) → f < length states
+    → SameUse links after f → (link_at after f).is_dirty ≡ false → home_of links f ≡ None → owner_of (home_of after f) ≡ Some unit.group → unit.group < room
+    → AreCleanCounts room states links counts → AreCleanCounts room (slice_set states f (Head unit)) after (clean_joined unit.group unit.order counts)
 clean_kept_here states links after f unit counts inside used clean away owner low are =
     clean_kept (slice_set states f (Head unit)) links after f unit used (let s = length-set states f (Head unit) in omega (arith, s, inside))
     (get_or-set_same states f (Head unit) Free inside) counts (clean_set states links counts f (Head unit) away are) low away owner clean
 
 -- a block became a unit, and joined its group's list
-pub clean_placed : (t : KnownTable) (n : KnownMachine) → IsConsistent t n → (states : List FrameState) (links : List Link) (lists : List Lru) (group : ℕ) (block : Block)
+pub clean_placed : {room : ℕ} (t : KnownTable) (n : KnownMachine) → IsConsistent t n → (states : List FrameState) (links : List Link) (lists : List Lru) (group : ℕ) (block : Block)
     (counts : List ℕ) → block.at < length states → PlacesUnit group block states n.frame_states → JoinsList group block.at (group_lists links lists) (lists_of n)
-    → SameUse links n.links block.at → (link_at n.links block.at).is_dirty ≡ false → home_of links block.at ≡ None → group < most_groups
-    → AreCleanCounts states links counts → AreCleanCounts n.frame_states n.links (clean_joined group block.order counts)
+    → SameUse links n.links block.at → (link_at n.links block.at).is_dirty ≡ false → home_of links block.at ≡ None → group < room
+    → AreCleanCounts room states links counts → AreCleanCounts room n.frame_states n.links (clean_joined group block.order counts)
 clean_placed t n ok states links lists group block counts inside places joins used clean away low are =
     clean_kept n.frame_states links n.links block.at (record { group = group; order = block.order }) used (let s = places.frames in omega (arith, s, inside))
     heads counts (clean_states states n.frame_states links counts places.frames each are) low away (ap owner_of joins.home) clean
@@ -393,7 +398,7 @@ clean_placed t n ok states links lists group block counts inside places joins us
     decide i here ne false is = inl is
     decide i here ne true is =
         let tail : frame_state_at n.frame_states i ≡ Tail group = is ∙ cond-false (i == block.at) _ _ (ne_eqb i block.at ne) in
-        inr (sym (joins.homes i ne) ∙ head_away (home_of n.links i) (frame_state_at n.frame_states i) (fits_here t n ok i (let s = places.frames in omega (arith, s, here))) (ap head_group_of tail))
+        inr (sym (joins.homes i ne) ∙ head_away (room_of n.ledger.groups) (home_of n.links i) (frame_state_at n.frame_states i) (fits_here t n ok i (let s = places.frames in omega (arith, s, here))) (ap head_group_of tail))
 
     each : (i : ℕ) → i < length states → (frame_state_at n.frame_states i ≡ frame_state_at states i) ⊎ (home_of links i ≡ None)
     each i here = elim (cases_eq i block.at) [
@@ -403,18 +408,18 @@ clean_placed t n ok states links lists group block counts inside places joins us
 
 -- a unit is dirty or clean, as the calls see it
 pub clean_marked_here : (t : KnownTable) (m now : KnownMachine) → m ≡ now → IsConsistent t m → (f i : ℕ) → f < t.frames → i ≡ f → home_of now.links f ≢ None
-    → (unit : ChargedUnit) → frame_state_at m.frame_states i ≡ Head unit → (counts : List ℕ) → AreCleanCounts m.frame_states m.links counts
+    → (unit : ChargedUnit) → frame_state_at m.frame_states i ≡ Head unit → (counts : List ℕ) → AreCleanCounts (length m.killed) m.frame_states m.links counts
     → (links : List Link) → SameUse m.links links i → home_of links i ≡ home_of m.links i → (was is : Bool) → was ≡ (link_at m.links i).is_dirty
-    → (link_at links i).is_dirty ≡ is → AreCleanCounts m.frame_states links (clean_dirtied was is unit.group unit.order counts)
+    → (link_at links i).is_dirty ≡ is → AreCleanCounts (length m.killed) m.frame_states links (clean_dirtied was is unit.group unit.order counts)
 clean_marked_here t m now same ok f i inside at kept unit heads counts are links used home was is was_is is_is =
     let s = ok.sizes.frame_states in
     let kept_m : home_of m.links f ≢ None = subst (λ (x : KnownMachine). home_of x.links f ≢ None) (sym same) kept in
     clean_marked m.frame_states m.links links i unit used (omega (arith, s, inside, at)) heads counts are (subst (λ (k : ℕ). home_of m.links k ≢ None) (sym at) kept_m)
-    (subst (λ (k : ℕ). FitsFrameState (home_of m.links k) (frame_state_at m.frame_states k)) (sym at) (ok.frame_states f inside)) home was is (sym was_is) is_is
+    (subst (λ (k : ℕ). FitsFrameState (length m.killed) (home_of m.links k) (frame_state_at m.frame_states k)) (sym at) (fits_counted t m ok f inside)) home was is (sym was_is) is_is
 
--- the group of a kept unit has a number, as the calls see it
+-- there is room for the group of a kept unit, as the calls see it
 pub listed_group : (t : KnownTable) (m now : KnownMachine) → m ≡ now → IsConsistent t m → (f i : ℕ) → f < t.frames → i ≡ f → home_of now.links f ≢ None
-    → (unit : ChargedUnit) → frame_state_at m.frame_states i ≡ Head unit → unit.group < most_groups
+    → (unit : ChargedUnit) → frame_state_at m.frame_states i ≡ Head unit → unit.group < length m.killed
 listed_group t m now same ok f i inside at kept unit heads =
-    (listed_owner (home_of m.links f) (frame_state_at m.frame_states f) unit (subst (λ (x : KnownMachine). home_of x.links f ≢ None) (sym same) kept) (ok.frame_states f inside)
+    (listed_owner (length m.killed) (home_of m.links f) (frame_state_at m.frame_states f) unit (subst (λ (x : KnownMachine). home_of x.links f ≢ None) (sym same) kept) (fits_counted t m ok f inside)
     (subst (λ (k : ℕ). frame_state_at m.frame_states k ≡ Head unit) at heads)).0

@@ -3,7 +3,7 @@ use Rattle.std.proofs.Common.{◌≡◌, ◌≢◌, ℕ, ◌<◌, Bool, Option, 
 use Rattle.std.specs.Prelude.{slice_set, option_map, IfSome}
 use Rattle.std.proofs.lemmas.List.{get_or_default, set-get_or}
 use Rattle.std.proofs.lemmas.Option.{none-some}
-use Rattle.group_tree.specs.Bounds.{most_groups}
+use Rattle.group_tree.specs.Groups.{room_of}
 use Rattle.lru_lists.specs.declared.record.Link.{Link}
 use Rattle.lru_lists.specs.declared.record.Home.{Home}
 use Rattle.lru_lists.specs.declared.record.LruList.{LruList}
@@ -16,10 +16,10 @@ use Rattle.mem_machine.specs.{lists_of, Dirties, Makes}
 use Rattle.mem_machine.proofs.Listed.{dirtied_owners, lists_consistent, place_here, unlisted_stay, others_stay}
 use Rattle.mem_machine.proofs.Followed.{makes_stay}
 
--- a home that is there is of a group number
+-- a home that is there is of a group that there is room for
 pub owner_bound : (t : KnownTable) (m : KnownMachine) → IsConsistent t m → (f : ℕ) (h : Home) → f < t.frames
-    → home_of m.links f ≡ Some h → h.owner < most_groups
-owner_bound t m ok f h inside is = (subst (λ (x : Option Home). IfSome x (λ y. (y.owner < most_groups) × (head_group_of
+    → home_of m.links f ≡ Some h → h.owner < room_of m.ledger.groups
+owner_bound t m ok f h inside is = (subst (λ (x : Option Home). IfSome x (λ y. (y.owner < room_of m.ledger.groups) × (head_group_of
     (frame_state_at m.frame_states f) ≡ Some y.owner))) is (ok.frame_states f inside)).0
 
 pub on_list : (links : List Link) (f : ℕ) (h : Home) → home_of links f ≡ Some h → list_of links h.owner f ≢ None
@@ -66,7 +66,7 @@ module _ (t : KnownTable) (m : KnownMachine) (ok : IsConsistent t m) (f : ℕ) (
           (entries Inactive);
       active = subst (λ (x : Lru). entries_of links x Active ≡ changed_at f (dirtied d) (entries_of m.links x Active)) (sym its_lists) (entries Active);
       others = subst (λ (l : List Lru). OthersStay h.owner (lists_of m) (group_lists links l)) same_lists
-          (others_stay m.links links m.lists h.owner lru lru ok.lists ok.sizes.lists owned changes others_stay_linked);
+          (others_stay m.links links m.lists h.owner lru lru ok.lists owned changes others_stay_linked);
       unlisted = λ g none. unlisted_stay m.links links lru.owner g changes (owners g) none;
     }
 

@@ -1,9 +1,9 @@
 -- What a drain of a stock leaves of the machine. Serves `drain_stock`.
-use Rattle.std.proofs.Common.{◌≡◌, ℕ, ◌+◌, ◌-◌, ◌<◌, ◌≤◌, true, Option, Some, None, List, [], ◌∷◌, get_or, refl, sym, ap, ◌∙◌, subst, inl, inr, arith}
+use Rattle.std.proofs.Common.{◌≡◌, ℕ, ◌+◌, ◌-◌, ◌<◌, ◌≤◌, true, Option, Some, None, List, [], ◌∷◌, length, get_or, refl, sym, ap, ◌∙◌, subst, inl, inr, arith}
 use Rattle.std.specs.List.{fold}
 use Rattle.std.specs.Prelude.{slice_set}
-use Rattle.group_tree.specs.Bounds.{most_groups}
-use Rattle.group_tree.specs.Groups.{has_group}
+use Rattle.group_tree.specs.declared.group.Group.{Group}
+use Rattle.group_tree.specs.Groups.{has_group, room_of}
 use Rattle.group_charge.specs.declared.note.Note.TheVariants.{Stock}
 use Rattle.group_charge.specs.{Ledger, pages_of, KnownNotes, noted}
 use Rattle.group_charge.proofs.CallerLemmas.{uncharge_pages}
@@ -17,11 +17,12 @@ use Rattle.boot_words.specs.{hide, KnownPasts, IsHeld, MakesStep, MayMake, cpu_p
 use Rattle.step_watch.specs.Watched.{KnownWatch, Watches}
 use Rattle.mem_machine.specs.declared.machine.Machine.TheInside.{Inside}
 use Rattle.mem_machine.specs.{AreBooked, AreOwners, IsSoundMachine, machine_of, Makes, StaysVisited, lock_holder, local_of, KnownMachine}
-use Rattle.mem_machine.specs.{IsConsistent, IsCpuOf, IsShownBy, frames_charged, left_by, pages_booked, stock_group, AreLocal, KnownRun, MayTake}
+use Rattle.mem_machine.specs.{FitsFrameState, IsConsistent, IsCpuOf, IsShownBy, frame_state_at, frames_charged, home_of, left_by, pages_booked, stock_group, AreLocal, KnownRun, MayTake}
 use Rattle.mem_machine.specs.{MayTakeAll, Records, after_made, drain_steps, Drains, DrainsNoted, uncharged}
 use Rattle.mem_machine.proofs.AtTable.{made_at}
 use Rattle.mem_machine.proofs.Behind.{FitsDrain, fits_drain}
 use Rattle.mem_machine.proofs.Booking.{book_within, books_less, books_none, books_same, sums_less, sums_same}
+use Rattle.mem_machine.proofs.Entries.{entry_set, has_entry}
 use Rattle.mem_machine.proofs.Draining.{drain_counts, drain_follows, drain_hidden, drain_leads, drain_lists, drain_may, drain_state, drained_none, groups_stay, ungrants_none, ungrants_some}
 use Rattle.mem_machine.proofs.Made.{makes, stays_visited}
 use Rattle.mem_machine.proofs.Noted.{may_all, notes_both, notes_one, run_ends, run_steps}
@@ -68,19 +69,19 @@ module _ (t : KnownTable) (m : KnownMachine) (u : State) (ok : IsShownBy t m u) 
   pub drain_owners : (owners : List (Option ℕ)) → AreOwners t.cpus u.parts owners → AreOwners t.cpus (drain_state u q n).parts owners
   drain_owners = owners_same t.cpus u.parts (drain_state u q n).parts drain_groups
 
-  pub drain_sums : (sums : List ℕ) → AreBooked t.cpus u.parts sums → (g : ℕ) → (u.parts q).stock.group ≡ Some g → g < most_groups
-      → AreBooked t.cpus (drain_state u q n).parts (slice_set sums g (get_or sums g 0 - n))
+  pub drain_sums : (sums : List ℕ) → AreBooked (length m.killed) t.cpus u.parts sums → (g : ℕ) → (u.parts q).stock.group ≡ Some g → g < length m.killed
+      → AreBooked (length m.killed) t.cpus (drain_state u q n).parts (slice_set sums g (get_or sums g 0 - n))
   drain_sums sums are g group fits = sums_less t.cpus u.parts q inside (drained (u.parts q) n) g n group group less sums are fits
 
-  pub drain_sums_none : n ≡ 0 → (sums : List ℕ) → AreBooked t.cpus u.parts sums → AreBooked t.cpus (drain_state u q n).parts sums
+  pub drain_sums_none : n ≡ 0 → (sums : List ℕ) → AreBooked (length m.killed) t.cpus u.parts sums → AreBooked (length m.killed) t.cpus (drain_state u q n).parts sums
   drain_sums_none none sums are = sums_same t.cpus u.parts (drain_state u q n).parts sums are
       (books_same t.cpus u.parts (drain_state u q n).parts
       (at_each u.parts q (drained (u.parts q) n) (λ j x. x.book ≡ (u.parts j).book) (omega (arith, none)) (λ j ne. refl)) drain_groups)
 
   -- its sum has the pages
-  pub drain_sum_within : (sums : List ℕ) → AreBooked t.cpus u.parts sums → (g : ℕ) → (u.parts q).stock.group ≡ Some g → g < most_groups → n ≤ get_or sums g 0
-  drain_sum_within sums are g group fits =
-      let book = book_within t.cpus u.parts q inside g group in let sum = are.each g fits in omega (arith, book, within, sum)
+  pub drain_sum_within : (sums : List ℕ) → AreBooked (length m.killed) t.cpus u.parts sums → (g : ℕ) → (u.parts q).stock.group ≡ Some g → n ≤ get_or sums g 0
+  drain_sum_within sums are g group =
+      let book = book_within t.cpus u.parts q inside g group in let sum = are.each g in omega (arith, book, within, sum)
 
 -- ---- all of it, in the words of the call
 
@@ -128,8 +129,8 @@ module _ (t : KnownTable) (m : KnownMachine) (ok : IsConsistent t m) (q n : ℕ)
     drain_charged t m (left_by t m.run.past) ok.shown q n k.inside within g group,
   )
 
-  pub sum_within : (sums : List ℕ) → AreBooked t.cpus (left_by t m.run.past).parts sums → (g : ℕ) → stock_group t m q ≡ Some g → g < most_groups → n ≤ get_or sums g 0
-  sum_within sums are g group fits = drain_sum_within t m (left_by t m.run.past) ok.shown q n k.inside within sums are g group fits
+  pub sum_within : (sums : List ℕ) → AreBooked (length m.killed) t.cpus (left_by t m.run.past).parts sums → (g : ℕ) → stock_group t m q ≡ Some g → n ≤ get_or sums g 0
+  sum_within sums are g group = drain_sum_within t m (left_by t m.run.past) ok.shown q n k.inside within sums are g group
 
   -- the ungrant is the second step
   pub ungrant_may : (g : ℕ) → stock_group t m q ≡ Some g → 1 ≤ n → (later : KnownPasts) → MakesStep t m.run.past 0 (DrainStock q) (Pages n) later
@@ -156,9 +157,15 @@ module _ (t : KnownTable) (m : KnownMachine) (ok : IsConsistent t m) (q n : ℕ)
     pub drained_consistent : (l : Ledger) → l ≡ uncharged m.ledger o n → IsConsistent t (record m { ledger = l; run = run })
     drained_consistent l off = subst (λ (x : Ledger). IsConsistent t (record m { ledger = x; run = run })) (sym off) (record {
       choice = ok.choice;
-      sizes = record { frame_states = ok.sizes.frame_states; links = ok.sizes.links; lists = ok.sizes.lists; killed = ok.sizes.killed };
+      sizes = record {
+        frame_states = ok.sizes.frame_states;
+        links = ok.sizes.links;
+        lists = ok.sizes.lists ∙ ap room_of (sym (groups_stay m.ledger o n));
+        killed = ok.sizes.killed ∙ ap room_of (sym (groups_stay m.ledger o n));
+      };
       areas = ok.areas;
-      frame_states = ok.frame_states;
+      frame_states = λ f within. subst (λ (groups : List Group). FitsFrameState (room_of groups) (home_of m.links f) (frame_state_at m.frame_states f)) (sym (groups_stay m.ledger o n))
+          (ok.frame_states f within);
       units = ok.units;
       lists = ok.lists;
       balances = ok.balances;
@@ -170,13 +177,13 @@ module _ (t : KnownTable) (m : KnownMachine) (ok : IsConsistent t m) (q n : ℕ)
     owners_then owners are = subst (λ (s : State). AreOwners t.cpus s.parts owners) (sym drain_left)
         (drain_owners t m (left_by t m.run.past) ok.shown q n k.inside within owners are)
 
-    pub sums_then : (sums : List ℕ) → AreBooked t.cpus (left_by t m.run.past).parts sums → (g : ℕ) → o ≡ Some g → g < most_groups
-        → AreBooked t.cpus (left_by t run.past).parts (slice_set sums g (get_or sums g 0 - n))
-    sums_then sums are g of fits = subst (λ (s : State). AreBooked t.cpus s.parts (slice_set sums g (get_or sums g 0 - n))) (sym drain_left)
+    pub sums_then : (sums : List ℕ) → AreBooked (length m.killed) t.cpus (left_by t m.run.past).parts sums → (g : ℕ) → o ≡ Some g → g < length m.killed
+        → AreBooked (length m.killed) t.cpus (left_by t run.past).parts (slice_set sums g (get_or sums g 0 - n))
+    sums_then sums are g of fits = subst (λ (s : State). AreBooked (length m.killed) t.cpus s.parts (slice_set sums g (get_or sums g 0 - n))) (sym drain_left)
         (drain_sums t m (left_by t m.run.past) ok.shown q n k.inside within sums are g (group ∙ of) fits)
 
-    pub sums_stay : n ≡ 0 → (sums : List ℕ) → AreBooked t.cpus (left_by t m.run.past).parts sums → AreBooked t.cpus (left_by t run.past).parts sums
-    sums_stay none sums are = subst (λ (s : State). AreBooked t.cpus s.parts sums) (sym drain_left)
+    pub sums_stay : n ≡ 0 → (sums : List ℕ) → AreBooked (length m.killed) t.cpus (left_by t m.run.past).parts sums → AreBooked (length m.killed) t.cpus (left_by t run.past).parts sums
+    sums_stay none sums are = subst (λ (s : State). AreBooked (length m.killed) t.cpus s.parts sums) (sym drain_left)
         (drain_sums_none t m (left_by t m.run.past) ok.shown q n k.inside within none sums are)
 
     drained_here : AllDrained t m q n (record m { ledger = uncharged m.ledger o n; run = run })
@@ -224,16 +231,20 @@ module _ {N : Type 0} (t : KnownTable) (fields : Inside N) (ok : IsSoundMachine 
   abbrev m : KnownMachine
   m = machine_of fields
 
-  pub drained_sound : (g : ℕ) → stock_group t (machine_of fields) q ≡ Some g → (i : ℕ) → i ≡ g → i < most_groups → (run : KnownRun) → Records t (machine_of fields).run (drain_steps q (Some g) n) run
-      → (charges : Ledger) → charges ≡ uncharged (machine_of fields).ledger (Some g) n
-      → IsSoundMachine {N = N} t (record fields { charges = charges; sums = slice_set fields.sums i (get_or fields.sums i 0 - n); past = run.past; watch = run.watch })
-  drained_sound g group i is fits run noted charges off = record {
-    consistent = drained_consistent t m ok.consistent q n k (Some g) group run noted charges off;
-    free = ok.free;
-    clean = ok.clean;
-    sums = sums_then t m ok.consistent q n k (Some g) group run noted fields.sums ok.sums i (ap Some (sym is)) fits;
-    owners = owners_then t m ok.consistent q n k (Some g) group run noted fields.owners ok.owners;
-  }
+  -- the sum of the group has an entry, and at least the pages
+  pub drained_entry : (g : ℕ) → stock_group t (machine_of fields) q ≡ Some g → 1 ≤ n → g < length fields.sums.items
+  drained_entry g group some =
+      let within = sum_within t m ok.consistent q n k fields.sums.items ok.sums g group in
+      has_entry fields.sums.items g (omega (arith, within, some))
+
+  pub drained_sums : (g : ℕ) → stock_group t (machine_of fields) q ≡ Some g → 1 ≤ n → (i x : ℕ) → i ≡ g → x ≡ get_or fields.sums.items i x
+      → (run : KnownRun) → Records t (machine_of fields).run (drain_steps q (Some g) n) run
+      → AreBooked (length fields.killed.items) t.cpus (left_by t run.past).parts (slice_set fields.sums.items i (x - n))
+  drained_sums g group some i x is read run noted =
+      let inside = drained_entry g group some in
+      subst (AreBooked (length fields.killed.items) t.cpus (left_by t run.past).parts)
+      (sym (entry_set (λ (sum : ℕ). sum - n) fields.sums.items i g x is inside read))
+      (sums_then t m ok.consistent q n k (Some g) group run noted fields.sums.items ok.sums g refl (let size = ok.sums.size in omega (arith, size, inside)))
 
   pub emptied_sound : n ≡ 0 → (run : KnownRun) → Records t (machine_of fields).run (drain_steps q (stock_group t (machine_of fields) q) n) run
       → IsSoundMachine {N = N} t (record fields { past = run.past; watch = run.watch })
@@ -242,7 +253,7 @@ module _ {N : Type 0} (t : KnownTable) (fields : Inside N) (ok : IsSoundMachine 
         consistent = drained_consistent t m ok.consistent q n k o refl run noted fields.charges (drained_none fields.charges o n none);
         free = ok.free;
         clean = ok.clean;
-        sums = sums_stay t m ok.consistent q n k o refl run noted none fields.sums ok.sums;
+        sums = sums_stay t m ok.consistent q n k o refl run noted none fields.sums.items ok.sums;
         owners = owners_then t m ok.consistent q n k o refl run noted fields.owners ok.owners;
       }
 

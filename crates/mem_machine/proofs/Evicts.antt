@@ -1,7 +1,7 @@
 -- A kept unit is tried: it is missed, or it is frozen and freed. Serves `evict`.
 use Rattle.std.proofs.Common.{◌≡◌, ◌≢◌, ℕ, ◌^◌, ◌<◌, Bool, true, Option, Some, None, List, length, refl, sym, ap, ◌∙◌, subst}
 use Rattle.std.specs.Prelude.{IfSome}
-use Rattle.group_tree.specs.Bounds.{most_groups}
+use Rattle.group_tree.specs.Groups.{room_of}
 use Rattle.zone_blocks.specs.declared.block.Block.{Block}
 use Rattle.zone_blocks.specs.{AreMaximalBlocks, GivesFrames}
 use Rattle.group_charge.specs.{Ledger, UsageRises, with_uncharge, KnownNotes, unit_noted}
@@ -95,7 +95,7 @@ some_same a b e = cc
 same_group : (t : KnownTable) (m : KnownMachine) → IsConsistent t m → (f : ℕ) → f < t.frames → (unit : ChargedUnit)
     → frame_state_at m.frame_states f ≡ Head unit → (h : Home) → home_of m.links f ≡ Some h → unit.group ≡ h.owner
 same_group t m ok f inside unit heads h home =
-    let kept = subst (λ (x : Option Home). IfSome x (λ y. (y.owner < most_groups) × (head_group_of (frame_state_at m.frame_states f) ≡ Some y.owner))) home (ok.frame_states f inside) in
+    let kept = subst (λ (x : Option Home). IfSome x (λ y. (y.owner < room_of m.ledger.groups) × (head_group_of (frame_state_at m.frame_states f) ≡ Some y.owner))) home (ok.frame_states f inside) in
     some_same unit.group h.owner (sym (ap head_group_of heads) ∙ kept.1)
 
 pub record AllEvicted (t : KnownTable) (now n : KnownMachine) (f pages : ℕ) (free : List Bool) : Type 0 where
@@ -107,7 +107,7 @@ pub record AllEvicted (t : KnownTable) (now n : KnownMachine) (f pages : ℕ) (f
 
 module _ (t : KnownTable) (m : KnownMachine) (ok : IsConsistent t m) (held : IsHeld t m.run.past) (f : ℕ) (inside : f < t.frames) (kept : home_of m.links f ≢ None)
     (links : List Link) (lists : List Lru) (leaves : LeavesList f (lists_of m) (group_lists links lists)) (stand : AllLinked links lists)
-    (linked : length links ≡ t.frames) (listed : length lists ≡ most_groups) (unit : ChargedUnit) (heads : frame_state_at m.frame_states f ≡ Head unit)
+    (linked : length links ≡ t.frames) (listed : length lists ≡ length m.lists) (unit : ChargedUnit) (heads : frame_state_at m.frame_states f ≡ Head unit)
     (before free : List Bool) (was : before ≡ free_of m.frame_states) (gives : GivesFrames before (record { at = f; order = unit.order }) free)
     (frame_states : List FrameState) (frees : FreesFrames f (2 ^ unit.order) m.frame_states frame_states) (blocks : List Block) (areas_free : AreMaximalBlocks free blocks)
     (usage : UsageRises (with_uncharge m.ledger unit.group (2 ^ unit.order)) m.ledger unit.group (2 ^ unit.order)) (run : KnownRun)
@@ -162,7 +162,7 @@ module _ (t : KnownTable) (m : KnownMachine) (ok : IsConsistent t m) (held : IsH
       }
 
 pub evicted_all : (t : KnownTable) (m now : KnownMachine) → m ≡ now → IsConsistent t m → (f i : ℕ) → f < t.frames → i ≡ f → home_of now.links f ≢ None → IsHeld t now.run.past
-    → (links : List Link) (lists : List Lru) → LeavesList i (lists_of m) (group_lists links lists) → AllLinked links lists → length links ≡ length m.links → length lists ≡ most_groups
+    → (links : List Link) (lists : List Lru) → LeavesList i (lists_of m) (group_lists links lists) → AllLinked links lists → length links ≡ length m.links → length lists ≡ length m.lists
     → (unit : ChargedUnit) → frame_state_at m.frame_states i ≡ Head unit
     → (before free : List Bool) (blocks : List Block) (frame_states : List FrameState) (ledger : Ledger) (counts : Counts) (pages : ℕ)
     (notes : KnownNotes) → notes ≡ unit_noted m.notes unit.group i pages

@@ -3,9 +3,11 @@ use Rattle.std.proofs.Common.{◌≡◌, ℕ, ◌+◌, ◌<◌, ◌≤◌, Bool,
 use Rattle.std.proofs.Common.{subst, inl, inr, arith, zero, suc, ◌==◌, ◌++◌}
 use Rattle.std.proofs.lemmas.Bool.{cases_lt, cases_eq, ne_eqb}
 use Rattle.std.proofs.lemmas.List.{get_or-replicate, length-replicate, length_push, get_or_append_left, get_or_push}
-use Rattle.group_tree.specs.Bounds.{most_groups}
+use Rattle.group_tree.specs.Groups.{room_of}
+use Rattle.group_tree.proofs.GroupLemmas.{room_of-initial}
 use Rattle.zone_blocks.specs.Areas.{AreMaximalBlocks}
-use Rattle.std.specs.Prelude.{is_some}
+use Rattle.std.specs.Prelude.{◌-◌, is_some, min}
+use Rattle.group_tree.specs.Bounds.{most_groups}
 use Rattle.group_charge.specs.Charges.{Ledger, pages_of, account_at}
 use Rattle.group_charge.specs.Notes.{no_notes}
 use Rattle.lru_lists.specs.declared.record.Link.{Link}
@@ -16,7 +18,7 @@ use Rattle.step_rules.specs.declared.phase.ChargedUnit.{ChargedUnit}
 use Rattle.step_rules.proofs.Sums.{sum_none}
 use Rattle.mem_machine.specs.declared.frame_state.FrameState.{FrameState}
 use Rattle.mem_machine.specs.declared.frame_state.FrameState.TheVariants.{Free, Head, Tail}
-use Rattle.mem_machine.specs.Machines.{boot_ledger}
+use Rattle.mem_machine.specs.Machines.{boot_ledger, boot_room}
 use Rattle.mem_machine.specs.{frame_state_at, free_of, frame_state_group, one_if_is, phase_hidden, AreUnits, AreEmpty, no_counts, KnownMachine}
 use Rattle.mem_machine.specs.{FitsFrameState, IsConsistent, IsFirst, IsShownBy, BalancesCounts, home_of, frames_charged, left_by, pages_booked}
 use Rattle.mem_machine.specs.{booked, AreBooked, AreOwners, Rests}
@@ -103,8 +105,8 @@ module _ (t : KnownTable) (m : KnownMachine) (first : IsFirst t m) where
     tails = λ x g is. absurd (not_tail g (sym (all_free x) ∙ is));
   }
 
-  frame_states_first : (f : ℕ) → f < t.frames → FitsFrameState (home_of m.links f) (frame_state_at m.frame_states f)
-  frame_states_first f inside = subst (λ (x : Option Home). FitsFrameState x (frame_state_at m.frame_states f)) (sym (no_home f)) tt
+  frame_states_first : (f : ℕ) → f < t.frames → FitsFrameState (room_of m.ledger.groups) (home_of m.links f) (frame_state_at m.frame_states f)
+  frame_states_first f inside = subst (λ (x : Option Home). FitsFrameState (room_of m.ledger.groups) x (frame_state_at m.frame_states f)) (sym (no_home f)) tt
 
   charged_first : (g : ℕ) → pages_of m.ledger g ≡ frames_charged m.frame_states g + pages_booked t.cpus (hide (at_boot (zone_of_boot t))).parts g
   charged_first g =
@@ -117,7 +119,7 @@ module _ (t : KnownTable) (m : KnownMachine) (first : IsFirst t m) where
   shown_first : IsShownBy t m (hide (at_boot (zone_of_boot t)))
   shown_first = record {
     groups = sym (ap (λ (l : Ledger). l.groups) first.ledger);
-    killed = λ g. sym (ap (λ (l : List Bool). get_or l g false) first.killed ∙ repeated most_groups g false);
+    killed = λ g. sym (ap (λ (l : List Bool). get_or l g false) first.killed ∙ repeated (boot_room t.choices.groups) g false);
     phases = λ f. sym (ap phase_hidden (all_free f));
     references = λ f. sym (ap (λ (h : Option Home). one_if (is_some h)) (no_home f));
     settled = λ g. refl;
@@ -126,14 +128,17 @@ module _ (t : KnownTable) (m : KnownMachine) (first : IsFirst t m) where
     charged = charged_first;
   }
 
-  consistent_first : AreMaximalBlocks (free_of m.frame_states) m.blocks → length m.links ≡ t.frames → length m.lists ≡ most_groups → AllLinked m.links m.lists → IsConsistent t m
+  room_first : room_of m.ledger.groups ≡ boot_room t.choices.groups
+  room_first = ap (λ (l : Ledger). room_of l.groups) first.ledger ∙ room_of-initial (min t.choices.groups most_groups - 1) ∙ omega arith
+
+  consistent_first : AreMaximalBlocks (free_of m.frame_states) m.blocks → length m.links ≡ t.frames → length m.lists ≡ boot_room t.choices.groups → AllLinked m.links m.lists → IsConsistent t m
   consistent_first areas links lists stand = record {
     choice = first.is_proportional;
     sizes = record {
       frame_states = ap length first.frame_states ∙ length-replicate t.frames Free;
       links = links;
-      lists = lists;
-      killed = ap length first.killed ∙ length-replicate most_groups false;
+      lists = lists ∙ sym room_first;
+      killed = ap length first.killed ∙ length-replicate (boot_room t.choices.groups) false ∙ sym room_first;
     };
     areas = areas;
     frame_states = frame_states_first;
@@ -145,19 +150,20 @@ module _ (t : KnownTable) (m : KnownMachine) (first : IsFirst t m) where
 
   -- what the parts of the first machine are made of
   pub starts : (free : List Bool) (frames : ℕ) → frames ≡ t.frames → length m.links ≡ frames
-      → AreEmpty m.lists most_groups → free ≡ replicate frames true → AreMaximalBlocks free m.blocks → IsConsistent t m × (free ≡ free_of m.frame_states)
+      → AreEmpty m.lists (boot_room t.choices.groups) → free ≡ replicate frames true → AreMaximalBlocks free m.blocks → IsConsistent t m × (free ≡ free_of m.frame_states)
   starts free frames sized links empty all areas =
       let same : free ≡ free_of m.frame_states = all ∙ ap (λ (n : ℕ). replicate n true) sized ∙ sym (ap free_of first.frame_states ∙ free_all t.frames) in (
         consistent_first (subst (λ (l : List Bool). AreMaximalBlocks l m.blocks) same areas) (links ∙ sized) empty.count
-            (empty_stand m.lists most_groups empty m.links first.nowhere),
+            (empty_stand m.lists (boot_room t.choices.groups) empty m.links first.nowhere),
         same,
       )
 
   -- nothing is booked
-  pub sums_first : (sums : List ℕ) → sums ≡ replicate most_groups 0 → AreBooked t.cpus (left_by t m.run.past).parts sums
-  sums_first sums zeros = subst (λ (u : State). AreBooked t.cpus u.parts sums) (sym left_first) (record {
-    size = ap length zeros ∙ length-replicate {A = ℕ} most_groups 0;
-    each = λ g fits. ap (λ (l : List ℕ). get_or l g 0) zeros ∙ repeated most_groups g 0 ∙ sym (none_booked t.cpus (zone_of_boot t) g);
+  pub sums_first : (marks : List Bool) (room : ℕ) → marks ≡ replicate room false → (sums : List ℕ) → sums ≡ replicate room 0
+      → AreBooked (length marks) t.cpus (left_by t m.run.past).parts sums
+  sums_first marks room unmarked sums zeros = subst (λ (u : State). AreBooked (length marks) t.cpus u.parts sums) (sym left_first) (record {
+    size = ap length zeros ∙ length-replicate {A = ℕ} room 0 ∙ sym (ap length unmarked ∙ length-replicate room false);
+    each = λ g. ap (λ (l : List ℕ). get_or l g 0) zeros ∙ repeated room g 0 ∙ sym (none_booked t.cpus (zone_of_boot t) g);
   })
 
   pub owners_first : (owners : List (Option ℕ)) → owners ≡ replicate 64 None → t.cpus ≤ 64 → AreOwners t.cpus (left_by t m.run.past).parts owners
@@ -179,7 +185,7 @@ module _ (t : KnownTable) (m : KnownMachine) (first : IsFirst t m) where
   }
 
 pub first_is : (t : KnownTable) (m : KnownMachine) (frames : ℕ) → frames ≡ t.frames → m.frame_states ≡ replicate frames Free
-    → m.ledger ≡ boot_ledger t.choices.groups → AreNowhere m.links → m.killed ≡ replicate most_groups false → m.counts ≡ no_counts
+    → m.ledger ≡ boot_ledger t.choices.groups → AreNowhere m.links → m.killed ≡ replicate (boot_room t.choices.groups) false → m.counts ≡ no_counts
     → m.notes ≡ no_notes → m.is_proportional ≡ t.choices.is_proportional → m.run.past ≡ seat_at_first t.table 0 → IsFirst t m
 first_is t m frames sized frame_states ledger nowhere killed counts notes choice past = record {
   frame_states = frame_states ∙ ap (λ (n : ℕ). replicate n Free) sized;

@@ -25,6 +25,7 @@ use Rattle.mem_machine.specs.declared.frame_state.FrameState.{FrameState}
 use Rattle.mem_machine.specs.declared.frame_state.FrameState.TheVariants.{Free, Head, Tail}
 use Rattle.boot_words.specs.Hidden.{hide_phase}
 use Rattle.mem_machine.specs.{frame_state_at, is_free_state, free_of, frame_state_group, head_group_of, one_if_is, phase_hidden, AreUnits, IsUnitAt}
+use Rattle.group_tree.specs.Groups.{room_of}
 use Rattle.mem_machine.specs.{KnownMachine, FitsFrameState, IsConsistent, home_of, frames_charged, FreesFrames}
 use Rattle.mem_machine.proofs.Records.{free_at, length_free}
 
@@ -303,17 +304,17 @@ module _ (t : KnownTable) (m : KnownMachine) (ok : IsConsistent t m) (f : ℕ) (
 
     -- a frame that fits its record still does, and the head if it is on no list
     pub homes_fit : (links : List Link) → ((x : ℕ) → (x ≡ f → ⊥) → home_of links x ≡ home_of m.links x) → home_of links f ≡ None → (x : ℕ) → x < t.frames
-        → FitsFrameState (home_of links x) (frame_state_at frame_states x)
+        → FitsFrameState (room_of m.ledger.groups) (home_of links x) (frame_state_at frame_states x)
     homes_fit links others gone x within = elim (cases_eq x f) [
-      | inl e ↦ subst (λ (h : Option Home). FitsFrameState h (frame_state_at frame_states x)) (sym (ap (home_of links) e ∙ gone)) tt
-      | inr ne ↦ subst (λ (h : Option Home). FitsFrameState h (frame_state_at frame_states x)) (sym (others x ne)) (elim (within_cases f (2 ^ unit.order) x) [
+      | inl e ↦ subst (λ (h : Option Home). FitsFrameState (room_of m.ledger.groups) h (frame_state_at frame_states x)) (sym (ap (home_of links) e ∙ gone)) tt
+      | inr ne ↦ subst (λ (h : Option Home). FitsFrameState (room_of m.ledger.groups) h (frame_state_at frame_states x)) (sym (others x ne)) (elim (within_cases f (2 ^ unit.order) x) [
         | inl inside ↦
             let low = inside.1 in
             let tail = (ok.units.heads f unit heads).tails x (omega (arith, low, ne)) inside.2 in
-            let old : FitsFrameState (home_of m.links x) (Tail unit.group) = subst (FitsFrameState (home_of m.links x)) tail (ok.frame_states x within) in
-            subst (FitsFrameState (home_of m.links x))
+            let old : FitsFrameState (room_of m.ledger.groups) (home_of m.links x) (Tail unit.group) = subst (FitsFrameState (room_of m.ledger.groups) (home_of m.links x)) tail (ok.frame_states x within) in
+            subst (FitsFrameState (room_of m.ledger.groups) (home_of m.links x))
             (sym (frees.records x ∙ ap (λ (b : Bool). cond b Free (frame_state_at m.frame_states x)) inside.0)) old
-        | inr out ↦ subst (FitsFrameState (home_of m.links x))
+        | inr out ↦ subst (FitsFrameState (room_of m.ledger.groups) (home_of m.links x))
             (sym (frees.records x ∙ ap (λ (b : Bool). cond b Free (frame_state_at m.frame_states x)) out.0)) (ok.frame_states x within)
       ])
     ]

@@ -8,7 +8,7 @@ use Rattle.zone_blocks.specs.declared.block.Block.{Block}
 use Rattle.zone_blocks.specs.{IsBlock, AreMaximalBlocks, GivesFrames, IsInUse}
 use Rattle.group_charge.specs.Charges.{Ledger, pages_of, with_uncharge}
 use Rattle.group_charge.proofs.CallerLemmas.{uncharge_pages, uncharge_peaks, uncharge_events}
-use Rattle.group_tree.specs.Bounds.{most_groups}
+use Rattle.group_tree.specs.Groups.{room_of}
 use Rattle.lru_lists.specs.declared.record.Home.{Home}
 use Rattle.lru_lists.specs.declared.record.Link.{Link}
 use Rattle.lru_lists.specs.declared.lru.Lru.{Lru}
@@ -35,6 +35,7 @@ use Rattle.mem_machine.specs.Steps.{publish_steps}
 use Rattle.mem_machine.proofs.Balances.{balanced_killed_fresh}
 use Rattle.mem_machine.proofs.BlockCharges.{charges_rise}
 use Rattle.mem_machine.proofs.Counted.{collects_none, comes_back}
+use Rattle.mem_machine.proofs.Entries.{has_entry}
 use Rattle.mem_machine.proofs.Followed.{follows_same, follows_still}
 use Rattle.mem_machine.proofs.Freeing.{is_out, is_in, free_block_given}
 use Rattle.mem_machine.proofs.HandOvers.{IsVisited, absorbed_part, collect_run, dropped_state, drop_run, kept_state, keep_run, one_more_held}
@@ -170,11 +171,11 @@ module _ (t : KnownTable) (m : KnownMachine) (c : KnownCpuLists) (ok : IsConsist
   abbrev fallen : List ℕ → List ℕ
   fallen sums = slice_set sums g (get_or sums g 0 - 1)
 
-  sums_fall : (sums : List ℕ) → AreBooked t.cpus (hide (local_of t m)).parts sums → g < most_groups → (h : ℕ) → h < most_groups
+  sums_fall : (sums : List ℕ) → AreBooked (length m.killed) t.cpus (hide (local_of t m)).parts sums → g < length m.killed → (h : ℕ)
       → get_or (fallen sums) h 0 ≡ pages_booked t.cpus (with_at (local_of t m).parts c.number part) h
-  sums_fall sums are fits h small =
+  sums_fall sums are fits h =
       let b = books h in
-      let a : get_or sums h 0 ≡ pages_booked t.cpus (local_of t m).parts h = are.each h small in
+      let a : get_or sums h 0 ≡ pages_booked t.cpus (local_of t m).parts h = are.each h in
       elim (cases_eq h g) [
         | inl e ↦
             let one : ◌≡◌ {A = ℕ} (cond (h == g) 1 0) 1 = ap (λ (x : Bool). cond x 1 0) (eq-eqb h g e) in
@@ -201,7 +202,7 @@ module _ (t : KnownTable) (m : KnownMachine) (c : KnownCpuLists) (ok : IsConsist
 
   -- ---- kept
 
-  module _ (links : List Link) (lists : List Lru) (run : KnownRun) (joined : AllJoin m.links m.lists g f links lists) (fits : g < most_groups)
+  module _ (links : List Link) (lists : List Lru) (run : KnownRun) (joined : AllJoin m.links m.lists g f links lists) (fits : g < length m.killed)
       (noted : Records t m.run (keep_steps c.number f) run) where
     abbrev kept : KnownMachine
     kept = record m { frame_states = slice_set m.frame_states f (Head (record { group = g; order = 0 })); links = links; lists = lists; run = run }
@@ -244,12 +245,12 @@ module _ (t : KnownTable) (m : KnownMachine) (c : KnownCpuLists) (ok : IsConsist
         charges_rise m.frame_states kept.frame_states g (record { at = f; order = 0 }) (placed_one m.frame_states g f within) is_block uncharged h in
         omega (arith, a, b, e))
 
-    kept_fits : (y : ℕ) → y < t.frames → FitsFrameState (home_of links y) (frame_state_at kept.frame_states y)
+    kept_fits : (y : ℕ) → y < t.frames → FitsFrameState (room_of m.ledger.groups) (home_of links y) (frame_state_at kept.frame_states y)
     kept_fits y low = elim (cases_eq y f) [
-      | inl e ↦ subst (λ (z : Option Home × FrameState). FitsFrameState z.0 z.1)
+      | inl e ↦ subst (λ (z : Option Home × FrameState). FitsFrameState (room_of m.ledger.groups) z.0 z.1)
           (λ i. (sym (ap (home_of links) e ∙ joined.joins.home) i, sym (ap (frame_state_at kept.frame_states) e ∙ get_or-set_same m.frame_states f (Head unit) Free within) i))
-          (fits, refl)
-      | inr ne ↦ subst (λ (z : Option Home × FrameState). FitsFrameState z.0 z.1)
+          (subst (λ (n : ℕ). g < n) ok.sizes.killed fits, refl)
+      | inr ne ↦ subst (λ (z : Option Home × FrameState). FitsFrameState (room_of m.ledger.groups) z.0 z.1)
           (λ i. (sym (joined.joins.homes y ne) i, sym (get_or-set_other m.frame_states f y (Head unit) Free ne) i)) (ok.frame_states y low)
     ]
 
@@ -259,7 +260,7 @@ module _ (t : KnownTable) (m : KnownMachine) (c : KnownCpuLists) (ok : IsConsist
       sizes = record {
         frame_states = length-set m.frame_states f (Head unit) ∙ ok.sizes.frame_states;
         links = joined.frames ∙ ok.sizes.links;
-        lists = joined.groups;
+        lists = joined.groups ∙ ok.sizes.lists;
         killed = ok.sizes.killed;
       };
       areas = subst (λ (l : List Bool). AreMaximalBlocks l m.blocks) kept_free ok.areas;
@@ -277,14 +278,14 @@ module _ (t : KnownTable) (m : KnownMachine) (c : KnownCpuLists) (ok : IsConsist
         listed is_fresh is_back) refl
 
     pub all_kept : (free : List Bool) (sums : List ℕ) (owners : List (Option ℕ)) → free ≡ free_of m.frame_states
-        → AreBooked t.cpus (left_by t m.run.past).parts sums → AreOwners t.cpus (left_by t m.run.past).parts owners
+        → AreBooked (length m.killed) t.cpus (left_by t m.run.past).parts sums → AreOwners t.cpus (left_by t m.run.past).parts owners
         → AllMoved t m c (KeepsFresh g f) (keep_steps c.number f) kept d free (fallen sums) owners
     all_kept free sums owners is are own =
         let seen = left_seen t m.run.past visit.held in
-        let are_seen : AreBooked t.cpus (hide (local_of t m)).parts sums = subst (λ (u : State). AreBooked t.cpus u.parts sums) seen are in record {
+        let are_seen : AreBooked (length m.killed) t.cpus (hide (local_of t m)).parts sums = subst (λ (u : State). AreBooked (length m.killed) t.cpus u.parts sums) seen are in record {
           consistent = kept_consistent;
           free_is = is ∙ kept_free;
-          sums_are = subst (λ (u : State). AreBooked t.cpus u.parts (fallen sums)) (sym kept_left)
+          sums_are = subst (λ (u : State). AreBooked (length m.killed) t.cpus u.parts (fallen sums)) (sym kept_left)
               (sums_moved t m kept (local_of t m) shown c.number part (with_at (local_of t m).phases f (phase.Head unit Live)) (one_more_held (local_of t m) c.number f v unit) sums (fallen sums) are_seen
               (length-set sums g (get_or sums g 0 - 1)) (sums_fall sums are_seen fits));
           owners_are = subst (λ (u : State). AreOwners t.cpus u.parts owners) (sym kept_left)
@@ -327,10 +328,10 @@ module _ (t : KnownTable) (m : KnownMachine) (c : KnownCpuLists) (ok : IsConsist
         let l = uncharge_pages m.ledger g 1 charged_one h in
         omega (arith, a, b, e, l))
 
-    dropped_fits : (y : ℕ) → y < t.frames → FitsFrameState (home_of m.links y) (frame_state_at new y)
-    dropped_fits y low = subst (λ (l : List FrameState). FitsFrameState (home_of m.links y) (frame_state_at l y)) (sym one_set) (elim (cases_eq y f) [
-      | inl e ↦ subst (λ (o : Option Home). FitsFrameState o (frame_state_at (slice_set m.frame_states f Free) y)) (sym (ap (home_of m.links) e ∙ no_list)) tt
-      | inr ne ↦ subst (FitsFrameState (home_of m.links y)) (sym (get_or-set_other m.frame_states f y Free Free ne)) (ok.frame_states y low)
+    dropped_fits : (y : ℕ) → y < t.frames → FitsFrameState (room_of m.ledger.groups) (home_of m.links y) (frame_state_at new y)
+    dropped_fits y low = subst (λ (l : List FrameState). FitsFrameState (room_of m.ledger.groups) (home_of m.links y) (frame_state_at l y)) (sym one_set) (elim (cases_eq y f) [
+      | inl e ↦ subst (λ (o : Option Home). FitsFrameState (room_of m.ledger.groups) o (frame_state_at (slice_set m.frame_states f Free) y)) (sym (ap (home_of m.links) e ∙ no_list)) tt
+      | inr ne ↦ subst (FitsFrameState (room_of m.ledger.groups) (home_of m.links y)) (sym (get_or-set_other m.frame_states f y Free Free ne)) (ok.frame_states y low)
     ])
 
     dropped_consistent : IsConsistent t dropped
@@ -346,16 +347,16 @@ module _ (t : KnownTable) (m : KnownMachine) (c : KnownCpuLists) (ok : IsConsist
     }
 
     pub all_dropped : (free now_free : List Bool) (sums : List ℕ) (owners : List (Option ℕ)) → free ≡ free_of m.frame_states
-        → GivesFrames free (record { at = f; order = 0 }) now_free → g < most_groups
-        → AreBooked t.cpus (left_by t m.run.past).parts sums → AreOwners t.cpus (left_by t m.run.past).parts owners
+        → GivesFrames free (record { at = f; order = 0 }) now_free → g < length m.killed
+        → AreBooked (length m.killed) t.cpus (left_by t m.run.past).parts sums → AreOwners t.cpus (left_by t m.run.past).parts owners
         → AllMoved t m c (DropsFresh g f) (drop_steps c.number f) dropped d now_free (fallen sums) owners
     all_dropped free now_free sums owners was gives fits are own =
         let seen = left_seen t m.run.past visit.held in
-        let are_seen : AreBooked t.cpus (hide (local_of t m)).parts sums = subst (λ (u : State). AreBooked t.cpus u.parts sums) seen are in
+        let are_seen : AreBooked (length m.killed) t.cpus (hide (local_of t m)).parts sums = subst (λ (u : State). AreBooked (length m.killed) t.cpus u.parts sums) seen are in
         let inside = within in record {
           consistent = dropped_consistent;
           free_is = free_block_given free now_free m.frame_states new f 0 (omega (arith, inside)) was gives frees;
-          sums_are = subst (λ (u : State). AreBooked t.cpus u.parts (fallen sums)) (sym dropped_left)
+          sums_are = subst (λ (u : State). AreBooked (length m.killed) t.cpus u.parts (fallen sums)) (sym dropped_left)
               (sums_moved t m dropped (local_of t m) shown c.number part (without_unit (with_at (local_of t m).phases f (phase.Head unit Collected)) f) (local_of t m).references sums (fallen sums) are_seen
               (length-set sums g (get_or sums g 0 - 1)) (sums_fall sums are_seen fits));
           owners_are = subst (λ (u : State). AreOwners t.cpus u.parts owners) (sym dropped_left)
@@ -388,13 +389,17 @@ module _ (t : KnownTable) (m now : KnownMachine) (same : m ≡ now) (c : KnownCp
   none_reported_here = let a : told_pages ((local_of t m).parts c.number) ≡ 0 = (shown_seen t m ok visit.held).absorbed c.number in omega (arith, a)
 
   -- a page of the fresh frame is in the sum of its group
-  pub sum_some : (sums : List ℕ) → AreBooked t.cpus (left_by t m.run.past).parts sums → g < most_groups → c.fresh ≢ [] → 1 ≤ get_or sums g 0
-  sum_some sums are fits some =
+  pub sum_some : (sums : List ℕ) → AreBooked (length m.killed) t.cpus (left_by t m.run.past).parts sums → c.fresh ≢ [] → 1 ≤ get_or sums g 0
+  sum_some sums are some =
       let front = front_of_some c.fresh some in
       let a : get_or sums g 0 ≡ pages_booked t.cpus (local_of t m).parts g =
-      (subst (λ (u : State). AreBooked t.cpus u.parts sums) (left_seen t m.run.past visit.held) are).each g fits in
+      (subst (λ (u : State). AreBooked (length m.killed) t.cpus u.parts sums) (left_seen t m.run.past visit.held) are).each g in
       let b = booked_some t m c ok visit front.0 g front.1 front.2 of in
       omega (arith, a, b)
+
+  -- so there is room for the group
+  pub has_room : (sums : List ℕ) → AreBooked (length m.killed) t.cpus (left_by t m.run.past).parts sums → c.fresh ≢ [] → g < length m.killed
+  has_room sums are some = let low = has_entry sums g (sum_some sums are some) in let sized = are.size in omega (arith, low, sized)
 
   module _ (f : ℕ) (rest : List ℕ) (front : c.fresh ≡ f ∷ rest) where
     keep_local : AreLocal c.number (local_of t m) (keep_steps c.number f)
@@ -435,7 +440,7 @@ module _ (t : KnownTable) (m now : KnownMachine) (same : m ≡ now) (c : KnownCp
 
     -- all of it, if it is kept
     pub keep_all : (free : List Bool) (sums sums' : List ℕ) (owners : List (Option ℕ)) → free ≡ free_of m.frame_states
-        → AreBooked t.cpus (left_by t m.run.past).parts sums → AreOwners t.cpus (left_by t m.run.past).parts owners → g < most_groups
+        → AreBooked (length m.killed) t.cpus (left_by t m.run.past).parts sums → AreOwners t.cpus (left_by t m.run.past).parts owners → g < length m.killed
         → (h : KnownCpuLists) → HandsOver f c h → sums' ≡ slice_set sums g (get_or sums g 0 - 1) → (i k : ℕ) → i ≡ f → k ≡ 0
         → (links : List Link) (lists : List Lru) → AllJoin m.links m.lists g i links lists → (run : KnownRun) → Records t m.run (keep_steps c.number f) run
         → AllMoved t now c (KeepsFresh g f) (keep_steps c.number f)
@@ -454,7 +459,7 @@ module _ (t : KnownTable) (m now : KnownMachine) (same : m ≡ now) (c : KnownCp
 
     -- all of it, if it is dropped
     pub drop_all : (free now_free : List Bool) (sums sums' : List ℕ) (owners : List (Option ℕ)) → free ≡ free_of m.frame_states
-        → AreBooked t.cpus (left_by t m.run.past).parts sums → AreOwners t.cpus (left_by t m.run.past).parts owners → g < most_groups
+        → AreBooked (length m.killed) t.cpus (left_by t m.run.past).parts sums → AreOwners t.cpus (left_by t m.run.past).parts owners → g < length m.killed
         → is_killed now.killed g ≡ true → (h : KnownCpuLists) → HandsOver f c h → sums' ≡ slice_set sums g (get_or sums g 0 - 1) → (i k : ℕ) → i ≡ f → k ≡ 0
         → (new : List FrameState) → FreesFrames i (2 ^ k) m.frame_states new → (blocks : List Block) → GivesFrames free (record { at = i; order = k }) now_free
         → AreMaximalBlocks now_free blocks → (ledger : Ledger) → ledger ≡ with_uncharge m.ledger g (2 ^ k)

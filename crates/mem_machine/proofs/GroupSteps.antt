@@ -1,6 +1,6 @@
 -- Steps on the groups alone. Serves `note_event`, `note_group_kill`, `mark_killed`, `set_max`, `set_oom_group`,
 -- `set_settings`, `make` and `remove`.
-use Rattle.std.proofs.Common.{◌≡◌, ◌≢◌, ℕ, ◌<◌, Bool, true, false, Option, Some, None, List, [], ◌∷◌, length, refl, sym, ap, ◌∙◌, subst, eq-eqb}
+use Rattle.std.proofs.Common.{◌≡◌, ◌≢◌, ℕ, ◌<◌, Bool, true, false, Option, Some, None, List, [], ◌∷◌, length, refl, sym, ap, ◌∙◌, subst, eq-eqb, arith}
 use Rattle.std.specs.Prelude.{is_none, not, slice_set}
 use Rattle.std.proofs.lemmas.Bool.{and_from, ne_eqb}
 use Rattle.std.proofs.lemmas.List.{get_or-set_same, get_or-set_other}
@@ -8,7 +8,9 @@ use Rattle.group_tree.specs.declared.event.EventKey.{EventKey}
 use Rattle.group_tree.specs.declared.event.EventKey.TheVariants.{OomKill, OomGroupKill}
 use Rattle.group_tree.specs.declared.fault.Fault.{Fault}
 use Rattle.group_tree.specs.declared.group.Group.{Group}
-use Rattle.group_tree.specs.{most_groups, has_child, has_group, make_fault, IsLeastFreeNumber}
+use Rattle.group_tree.proofs.CallerLemmas.{number_in_room}
+use Rattle.group_tree.proofs.GroupLemmas.{can_make, length-full, room_of-flagged, room_of-limited, room_of-with, room_of-without}
+use Rattle.group_tree.specs.{has_child, room_of, has_group, make_fault, IsLeastFreeNumber}
 use Rattle.group_charge.specs.declared.settings.ReclaimSettings.{ReclaimSettings}
 use Rattle.group_charge.specs.Charges.{Ledger, AreCharges, CountsEvent, SamePages, SamePeaks, account_at, current_of, pages_of, with_settings}
 use Rattle.group_charge.specs.Charges.{with_new_group, with_group_removed, with_group_limit, with_oom_flag}
@@ -23,7 +25,7 @@ use Rattle.step_rules.specs.State.{State}
 use Rattle.step_rules.proofs.Basics.{at_each}
 use Rattle.boot_words.specs.{hide, IsHeld, HasSameLists, KnownTable}
 use Rattle.mem_machine.specs.{AreBooked, AreOwners, counts_along, FollowsSteps, Makes, StaysVisited, lock_holder, local_of, KnownMachine, AddsGroup}
-use Rattle.mem_machine.specs.{IsConsistent, IsShownBy, is_killed, left_by, KnownRun, MayTake, Records, after_made}
+use Rattle.mem_machine.specs.{FitsFrameState, IsConsistent, IsShownBy, frame_state_at, home_of, is_killed, left_by, KnownRun, MayTake, Records, after_made}
 use Rattle.mem_machine.proofs.LedgerMoves.{follows_flag, follows_limit, follows_make, follows_note, follows_remove, follows_settings}
 use Rattle.mem_machine.proofs.Made.{makes, one_leads, stays_visited, zone_acts}
 use Rattle.mem_machine.proofs.Noted.{notes_none}
@@ -37,7 +39,7 @@ use Rattle.mem_machine.proofs.Usage.{usage_is}
 -- what such a step leaves, of the machine as it was seen before
 pub record AllGrouped (t : KnownTable) (m now : KnownMachine) (made : Step × Answer) (n : KnownMachine) : Type 0 where
   pub consistent : IsConsistent t n
-  pub sums : (sums : List ℕ) → AreBooked t.cpus (left_by t m.run.past).parts sums → AreBooked t.cpus (left_by t n.run.past).parts sums
+  pub sums : (sums : List ℕ) → AreBooked (length m.killed) t.cpus (left_by t m.run.past).parts sums → AreBooked (length n.killed) t.cpus (left_by t n.run.past).parts sums
   pub owners : (owners : List (Option ℕ)) → AreOwners t.cpus (left_by t m.run.past).parts owners → AreOwners t.cpus (left_by t n.run.past).parts owners
   pub steps : Makes t now (made ∷ []) n
   pub visit : StaysVisited t now n
@@ -47,6 +49,7 @@ pub record IsGroupStep (t : KnownTable) (m : KnownMachine) (made : Step × Answe
   pub step : IsLocalStep (local_of t m) (lock_holder m) made.0.seat made.0.action made.1
   pub only : after_made (local_of t m) made ≡ record (local_of t m) { groups = (after_made (local_of t m) made).groups; killed = (after_made (local_of t m) made).killed }
   pub groups : (after_made (local_of t m) made).groups ≡ l.groups
+  pub room : room_of l.groups ≡ room_of m.ledger.groups
   pub killed : (g : ℕ) → (after_made (local_of t m) made).killed g ≡ is_killed marks g
   pub follows : FollowsSteps (local_of t m) m.ledger (made ∷ []) l
   pub counts : m.counts ≡ counts_along (local_of t m) (made ∷ []) m.counts
@@ -56,7 +59,7 @@ pub may_group : (t : KnownTable) (m : KnownMachine) (made : Step × Answer) (l :
 may_group t m made l marks is = is.step
 
 module _ (t : KnownTable) (m : KnownMachine) (ok : IsConsistent t m) (is : IsHeld t m.run.past) (made : Step × Answer) (l : Ledger) (marks : List Bool)
-    (group : IsGroupStep t m made l marks) (pages : SamePages m.ledger l) (sized : length marks ≡ most_groups) (run : KnownRun) (noted : Records t m.run (made ∷ []) run) where
+    (group : IsGroupStep t m made l marks) (pages : SamePages m.ledger l) (sized : length marks ≡ length m.killed) (run : KnownRun) (noted : Records t m.run (made ∷ []) run) where
   abbrev then : KnownMachine
   then = record m { ledger = l; killed = marks; run = run }
 
@@ -82,15 +85,20 @@ module _ (t : KnownTable) (m : KnownMachine) (ok : IsConsistent t m) (is : IsHel
       record {
         consistent = record {
           choice = ok.choice;
-          sizes = record { frame_states = ok.sizes.frame_states; links = ok.sizes.links; lists = ok.sizes.lists; killed = sized };
+          sizes = record {
+            frame_states = ok.sizes.frame_states;
+            links = ok.sizes.links;
+            lists = ok.sizes.lists ∙ sym group.room;
+            killed = sized ∙ ok.sizes.killed ∙ sym group.room;
+          };
           areas = ok.areas;
-          frame_states = ok.frame_states;
+          frame_states = λ f inside. subst (λ (room : ℕ). FitsFrameState room (home_of m.links f) (frame_state_at m.frame_states f)) (sym group.room) (ok.frame_states f inside);
           units = ok.units;
           lists = ok.lists;
           balances = ok.balances;
           shown = subst (IsShownBy t then) (sym (left_then t m (made ∷ []) run is noted)) shown_then;
         };
-        sums = sums_stay t m is (made ∷ []) run noted same;
+        sums = λ sums are. subst (λ (room : ℕ). AreBooked room t.cpus (left_by t run.past).parts sums) (sym sized) (sums_stay t m is (made ∷ []) run noted same sums are);
         owners = owners_stay t m is (made ∷ []) run noted same;
         steps = makes t m then (made ∷ []) is noted (one_leads (lock_holder m) s made group.step) group.follows group.counts;
         visit = stays_visited t m then (made ∷ []) noted (ap (λ (x : State). x.hold) group.only)
@@ -101,6 +109,21 @@ module _ (t : KnownTable) (m : KnownMachine) (ok : IsConsistent t m) (is : IsHel
   grouped now same = subst (λ (x : KnownMachine). AllGrouped t m x made (record m { ledger = l; killed = marks; run = run })) same grouped_here
 
 -- ---- the steps
+
+-- a group that is there has a mark, and so has one that can be made
+pub there_inside : (t : KnownTable) (m now : KnownMachine) → m ≡ now → IsConsistent t m → AreCharges m.ledger → (g : ℕ) → has_group now.ledger.groups g ≡ true → g < length m.killed
+there_inside t m now same ok facts g there =
+    let low = number_in_room m.ledger.groups g facts.groups (ap (λ (x : KnownMachine). has_group x.ledger.groups g) same ∙ there) in
+    let sized = ok.sizes.killed in
+    omega (arith, low, sized)
+
+pub made_inside : (t : KnownTable) (m : KnownMachine) → IsConsistent t m → (g : ℕ) (path : List ℕ) → None ≡ make_fault m.ledger.groups path → IsLeastFreeNumber m.ledger.groups g
+    → g < length m.killed
+made_inside t m ok g path allowed least =
+    let few = length-full m.ledger.groups g least.least in
+    let room = (can_make m.ledger.groups path (sym allowed)).room in
+    let sized = ok.sizes.killed in
+    omega (arith, few, room, sized)
 
 -- the marks after one was set or cleared
 marks_set : (killed : ℕ → Bool) (marks : List Bool) (g : ℕ) (b : Bool) → ((h : ℕ) → killed h ≡ is_killed marks h) → g < length marks → (h : ℕ)
@@ -133,6 +156,7 @@ module _ (t : KnownTable) (m now : KnownMachine) (same : m ≡ now) (ok : IsCons
       step = step;
       only = stays ∙ (λ i. record (local_of t m) { groups = (sym stays i).groups; killed = (sym stays i).killed });
       groups = ap (λ (x : State). x.groups) stays ∙ shown.groups ∙ sym groups;
+      room = ap room_of groups;
       killed = λ h. ap (λ (x : State). x.killed h) stays ∙ shown.killed h;
       follows = follows_note kind action g noted (local_of t m) m.ledger l shown.groups counts peaks;
       counts = none (local_of t m) m.counts;
@@ -157,6 +181,7 @@ module _ (t : KnownTable) (m now : KnownMachine) (same : m ≡ now) (ok : IsCons
           (ap not (shown.killed g ∙ ap (λ (x : KnownMachine). is_killed x.killed g) same ∙ alive))) tt;
       only = refl;
       groups = shown.groups ∙ sym groups;
+      room = ap room_of groups;
       killed = marks_set (local_of t m).killed m.killed g true shown.killed inside;
       follows = follows_note OomKill (Kill g) g refl (local_of t m) m.ledger l shown.groups counts peaks;
       counts = refl;
@@ -168,6 +193,7 @@ module _ (t : KnownTable) (m now : KnownMachine) (same : m ≡ now) (ok : IsCons
           (and_from _ _ (and_from _ _ (zone_acts t m.run.past is) (seen_there g there)) (ap not (ne_eqb g 0 below))) tt;
       only = refl;
       groups = ap (λ (gs : List Group). (after_made (record (local_of t m) { groups = gs }) (zone_makes (SetMax g limit) Done)).groups) shown.groups;
+      room = room_of-limited m.ledger.groups g limit;
       killed = shown.killed;
       follows = follows_limit (local_of t m) m.ledger g limit;
       counts = refl;
@@ -179,6 +205,7 @@ module _ (t : KnownTable) (m now : KnownMachine) (same : m ≡ now) (ok : IsCons
           (and_from _ _ (and_from _ _ (zone_acts t m.run.past is) (seen_there g there)) (ap not (ne_eqb g 0 below))) tt;
       only = refl;
       groups = ap (λ (gs : List Group). (after_made (record (local_of t m) { groups = gs }) (zone_makes (SetFlag g flag) Done)).groups) shown.groups;
+      room = room_of-flagged m.ledger.groups g flag;
       killed = shown.killed;
       follows = follows_flag (local_of t m) m.ledger g flag;
       counts = refl;
@@ -197,6 +224,7 @@ module _ (t : KnownTable) (m now : KnownMachine) (same : m ≡ now) (ok : IsCons
           step = zone_step s (lock_holder m) (Remove g) Done refl (and_from _ _ (zone_acts t m.run.past is) removable) tt;
           only = refl;
           groups = ap (λ (gs : List Group). (after_made (record (local_of t m) { groups = gs }) (zone_makes (Remove g) Done)).groups) shown.groups;
+          room = room_of-without m.ledger.groups g below;
           killed = shown.killed;
           follows = follows_remove s m.ledger g;
           counts = refl;
@@ -212,6 +240,7 @@ module _ (t : KnownTable) (m now : KnownMachine) (same : m ≡ now) (ok : IsCons
         (subst (λ (gs : List Group). IsLeastFreeNumber gs g) (sym shown.groups) least);
     only = refl;
     groups = ap (λ (gs : List Group). (after_made (record (local_of t m) { groups = gs }) (zone_makes (Make path) (Number g))).groups) shown.groups;
+    room = room_of-with m.ledger.groups g path;
     killed = marks_set (local_of t m).killed m.killed g false shown.killed inside;
     follows = follows_make (local_of t m) m.ledger path g facts least;
     counts = refl;

@@ -48,7 +48,7 @@ module _ {N : Type 0} (t : KnownTable) (fields : Inside N) (ok : IsSoundMachine 
         };
         free = ok.free;
         clean = ok.clean;
-        sums = sums_stay t (machine_of {N = N} fields) holds.held (e ∷ []) run noted same fields.sums ok.sums;
+        sums = sums_stay t (machine_of {N = N} fields) holds.held (e ∷ []) run noted same fields.sums.items ok.sums;
         owners = owners_stay t (machine_of {N = N} fields) holds.held (e ∷ []) run noted same fields.owners ok.owners;
       }
 

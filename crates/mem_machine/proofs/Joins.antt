@@ -2,7 +2,6 @@
 use Rattle.std.proofs.Common.{◌≡◌, ℕ, ◌<◌, false, Option, Some, List, [], ◌∷◌, ◌++◌, length, get_or, sym, ap, ◌∙◌, subst}
 use Rattle.std.specs.Prelude.{slice_set}
 use Rattle.std.proofs.lemmas.List.{get_or-set_same, get_or_default, length-set}
-use Rattle.group_tree.specs.Bounds.{most_groups}
 use Rattle.lru_lists.specs.declared.record.Link.{Link}
 use Rattle.lru_lists.specs.declared.record.Home.{Home}
 use Rattle.lru_lists.specs.declared.record.LruList.TheVariants.{Inactive}
@@ -27,13 +26,10 @@ pub record AllJoin (links : List Link) (lists : List Lru) (g f : ℕ) (after : L
   pub joins : JoinsList g f (group_lists links lists) (group_lists after new)
   pub stand : AllLinked after new
   pub frames : length after ≡ length links
-  pub groups : length new ≡ most_groups
+  pub groups : length new ≡ length lists
 
-module _ (links : List Link) (lists : List Lru) (g f : ℕ) (fits : g < most_groups) (groups : length lists ≡ most_groups) (all : AllLinked links lists) (any lru : Lru)
+module _ (links : List Link) (lists : List Lru) (g f : ℕ) (there : g < length lists) (all : AllLinked links lists) (any lru : Lru)
     (read : lru ≡ get_or lists g any) where
-  there : g < length lists
-  there = subst (λ (n : ℕ). g < n) (sym groups) fits
-
   own : lru.owner ≡ g
   own = ap (λ (x : Lru). x.owner) read ∙ (all g any there).0
 
@@ -54,19 +50,19 @@ module _ (links : List Link) (lists : List Lru) (g f : ℕ) (fits : g < most_gro
             inactive = ap (inactive_of after) now ∙ added.inactive
                 ∙ ap (λ (l : Lru). inactive_of links l ++ record { number = f; is_marked = false; is_dirty = false } ∷ []) was;
             active = ap (active_of after) now ∙ added.active ∙ ap (active_of links) was;
-            others = others_stay links after lists g lru new all groups own added.changes others_stay_linked;
+            others = others_stay links after lists g lru new all own added.changes others_stay_linked;
             unlisted = λ x ne none. added.moves.kept x ne (ap (λ (h : Option Home). list_at h lru.owner) none);
           };
           stand = all_stand;
           frames = added.changes.frames;
-          groups = length-set lists g new ∙ groups;
+          groups = length-set lists g new;
         }
 
 -- the same if the group's lists were read and written by its number
-pub join_all : (links : List Link) (lists : List Lru) (g f o : ℕ) → o ≡ g → o < most_groups → length lists ≡ most_groups → AllLinked links lists → (any lru : Lru)
+pub join_all : (links : List Link) (lists : List Lru) (g f o : ℕ) → o ≡ g → g < length lists → AllLinked links lists → (any lru : Lru)
     → lru ≡ get_or lists o any → (after : List Link) (new : Lru) → IsAdded links lru f after new → OthersStayLinked → OneOfAllChanges
     → AllJoin links lists g f after (slice_set lists o new)
-join_all links lists g f o index fits groups all any lru read after new added others_stay_linked one_of_all_changes =
+join_all links lists g f o index there all any lru read after new added others_stay_linked one_of_all_changes =
     let read_here : lru ≡ get_or lists g any = read ∙ ap (λ (k : ℕ). get_or lists k any) index in
     subst (λ (k : ℕ). AllJoin links lists g f after (slice_set lists k new)) (sym index)
-    (join_here links lists g f (subst (λ (k : ℕ). k < most_groups) index fits) groups all any lru read_here after new added others_stay_linked one_of_all_changes)
+    (join_here links lists g f there all any lru read_here after new added others_stay_linked one_of_all_changes)

@@ -3,7 +3,6 @@ use Rattle.std.proofs.Common.{◌≡◌, ℕ, ◌<◌, Option, Some, List, lengt
 use Rattle.std.specs.Prelude.{slice_set, IfSome}
 use Rattle.std.proofs.lemmas.Option.{none-some}
 use Rattle.std.proofs.lemmas.List.{get_or-set_same, get_or_default, length-set}
-use Rattle.group_tree.specs.Bounds.{most_groups}
 use Rattle.lru_lists.specs.declared.record.Link.{Link}
 use Rattle.lru_lists.specs.declared.record.Home.{Home}
 use Rattle.lru_lists.specs.declared.lru.Lru.{Lru}
@@ -17,19 +16,16 @@ pub record AllLeave (links : List Link) (lists : List Lru) (f : ℕ) (after : Li
   pub leaves : LeavesList f (group_lists links lists) (group_lists after new)
   pub stand : AllLinked after new
   pub frames : length after ≡ length links
-  pub groups : length new ≡ most_groups
+  pub groups : length new ≡ length lists
 
 -- the home is of one of the owners
-pub owner_within : (home : Option Home) (h : Home) (lists : List Lru) → Some h ≡ home → IfSome home (λ x. x.owner < most_groups) → length lists ≡ most_groups
-    → h.owner < length lists
-owner_within home h lists is owner groups =
-    let bound : h.owner < most_groups = subst (λ (x : Option Home). IfSome x (λ y. y.owner < most_groups)) (sym is) owner in
-    subst (λ (n : ℕ). h.owner < n) (sym groups) bound
+pub owner_within : (home : Option Home) (h : Home) (lists : List Lru) → Some h ≡ home → IfSome home (λ x. x.owner < length lists) → h.owner < length lists
+owner_within home h lists is owner = subst (λ (x : Option Home). IfSome x (λ y. y.owner < length lists)) (sym is) owner
 
-module _ (links : List Link) (lists : List Lru) (f : ℕ) (h : Home) (home : Some h ≡ home_of links f) (owner : IfSome (home_of links f) (λ x. x.owner < most_groups))
-    (groups : length lists ≡ most_groups) (all : AllLinked links lists) (lru any : Lru) (read : lru ≡ get_or lists h.owner any) where
+module _ (links : List Link) (lists : List Lru) (f : ℕ) (h : Home) (home : Some h ≡ home_of links f) (owner : IfSome (home_of links f) (λ x. x.owner < length lists))
+    (all : AllLinked links lists) (lru any : Lru) (read : lru ≡ get_or lists h.owner any) where
   bound : h.owner < length lists
-  bound = owner_within (home_of links f) h lists home owner groups
+  bound = owner_within (home_of links f) h lists home owner
 
   own : lru.owner ≡ h.owner
   own = ap (λ (x : Lru). x.owner) read ∙ (all h.owner any bound).0
@@ -62,9 +58,9 @@ module _ (links : List Link) (lists : List Lru) (f : ℕ) (h : Home) (home : Som
         inactive = subst (λ (x : Lru × Lru). inactive_of after x.1 ≡ entries_without f (inactive_of links x.0))
             (λ i. (sym its_lists i, sym now_its i)) inactive;
         active = subst (λ (x : Lru × Lru). active_of after x.1 ≡ entries_without f (active_of links x.0)) (λ i. (sym its_lists i, sym now_its i)) active;
-        others = others_stay links after lists h.owner lru new all groups own changes others_stay_linked;
+        others = others_stay links after lists h.owner lru new all own changes others_stay_linked;
       };
       stand = all_stand;
       frames = changes.frames;
-      groups = length-set lists h.owner new ∙ groups;
+      groups = length-set lists h.owner new;
     }

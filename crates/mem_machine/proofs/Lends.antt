@@ -25,6 +25,7 @@ use Rattle.mem_machine.specs.declared.frame_state.FrameState.TheVariants.{Free, 
 use Rattle.mem_machine.specs.{AreBooked, AreOwners, counts_along, frame_state_at, frame_state_group, free_of, head_group_of, is_free_state}
 use Rattle.mem_machine.specs.{phase_hidden, LendsFrame, LendsNone, LendsOne, Visits, local_of, visit_state, KnownMachine, VisitState, FitsFrameState}
 use Rattle.mem_machine.specs.{IsConsistent, IsShownBy, home_of, left_by, pages_booked, AreLocal, KnownRun, Records, after_made, lend_steps}
+use Rattle.group_tree.specs.Groups.{room_of}
 use Rattle.mem_machine.proofs.Followed.{are_still, follows_same}
 use Rattle.mem_machine.proofs.HandOvers.{IsVisited}
 use Rattle.mem_machine.proofs.Hiding.{is_free_seen}
@@ -38,9 +39,9 @@ use Rattle.mem_machine.proofs.Sight.{left_seen, shown_seen}
 -- ---- one frame's record changes, which is charged neither before nor after, and the CPU's part
 
 -- a frame that heads no unit is on no list
-no_list : (home : Option Home) (x : FrameState) → FitsFrameState home x → head_group_of x ≡ None → home ≡ None
-no_list None x fits none = refl
-no_list (Some h) x fits none = absurd (none-some h.owner (sym none ∙ fits.1))
+no_list : (room : ℕ) (home : Option Home) (x : FrameState) → FitsFrameState room home x → head_group_of x ≡ None → home ≡ None
+no_list room None x fits none = refl
+no_list room (Some h) x fits none = absurd (none-some h.owner (sym none ∙ fits.1))
 
 unheaded : (x : FrameState) → frame_state_group x ≡ None → head_group_of x ≡ None
 unheaded Free is = refl
@@ -75,12 +76,12 @@ module _ (t : KnownTable) (m : KnownMachine) (c : KnownCpuLists) (ok : IsConsist
   books : (h : ℕ) → pages_booked t.cpus (with_at (local_of t m).parts c.number part) h ≡ pages_booked t.cpus (local_of t m).parts h
   books = books_stay t.cpus (local_of t m).parts c.number (number_range t m c visit).1 part book group
 
-  fits : (y : ℕ) → y < t.frames → FitsFrameState (home_of m.links y) (frame_state_at (slice_set m.frame_states f r) y)
+  fits : (y : ℕ) → y < t.frames → FitsFrameState (room_of m.ledger.groups) (home_of m.links y) (frame_state_at (slice_set m.frame_states f r) y)
   fits y low = elim (cases_eq y f) [
     | inl e ↦
-        let none = no_list (home_of m.links f) (frame_state_at m.frame_states f) (ok.frame_states f inside) (unheaded (frame_state_at m.frame_states f) was) in
-        subst (λ (h : Option Home). FitsFrameState h (frame_state_at (slice_set m.frame_states f r) y)) (sym (ap (home_of m.links) e ∙ none)) tt
-    | inr ne ↦ subst (FitsFrameState (home_of m.links y)) (sym (get_or-set_other m.frame_states f y r Free ne)) (ok.frame_states y low)
+        let none = no_list (room_of m.ledger.groups) (home_of m.links f) (frame_state_at m.frame_states f) (ok.frame_states f inside) (unheaded (frame_state_at m.frame_states f) was) in
+        subst (λ (h : Option Home). FitsFrameState (room_of m.ledger.groups) h (frame_state_at (slice_set m.frame_states f r) y)) (sym (ap (home_of m.links) e ∙ none)) tt
+    | inr ne ↦ subst (FitsFrameState (room_of m.ledger.groups) (home_of m.links y)) (sym (get_or-set_other m.frame_states f y r Free ne)) (ok.frame_states y low)
   ]
 
   shown : IsShownBy t m (hide (local_of t m))
@@ -103,18 +104,18 @@ module _ (t : KnownTable) (m : KnownMachine) (c : KnownCpuLists) (ok : IsConsist
         (λ h. let a = shown.charged h in let b = charges_stay m.frame_states f r within was now h in let e = books h in omega (arith, a, b, e)));
   }
 
-  pub all_moved : (Does : VisitState → VisitState → Type 0) (sums : List ℕ) (owners : List (Option ℕ)) → AreBooked t.cpus (left_by t m.run.past).parts sums → AreOwners t.cpus (left_by t m.run.past).parts owners
+  pub all_moved : (Does : VisitState → VisitState → Type 0) (sums : List ℕ) (owners : List (Option ℕ)) → AreBooked (length m.killed) t.cpus (left_by t m.run.past).parts sums → AreOwners t.cpus (left_by t m.run.past).parts owners
       → Does (visit_state m c) (visit_state (record m { blocks = blocks; frame_states = slice_set m.frame_states f r; run = run }) (record c { list = list; fresh = c.fresh; back = c.back }))
       → AllMoved t m c Does steps (record m { blocks = blocks; frame_states = slice_set m.frame_states f r; run = run }) (record c { list = list; fresh = c.fresh; back = c.back })
       (free_of (slice_set m.frame_states f r)) sums owners
   all_moved Does sums owners are own does =
       let seen = left_seen t m.run.past visit.held in
-      let here = subst (λ (u : State). AreBooked t.cpus u.parts sums) seen are in
+      let here = subst (λ (u : State). AreBooked (length m.killed) t.cpus u.parts sums) seen are in
       record {
         consistent = consistent_moved;
         free_is = refl;
-        sums_are = subst (λ (u : State). AreBooked t.cpus u.parts sums) (sym left)
-            (sums_moved t m n s shown c.number part ph s.references sums sums here refl (λ h small. here.each h small ∙ sym (books h)));
+        sums_are = subst (λ (u : State). AreBooked (length m.killed) t.cpus u.parts sums) (sym left)
+            (sums_moved t m n s shown c.number part ph s.references sums sums here refl (λ h. here.each h ∙ sym (books h)));
         owners_are = subst (λ (u : State). AreOwners t.cpus u.parts owners) (sym left)
             (owners_moved t m n s shown c.number part ph s.references owners (subst (λ (u : State). AreOwners t.cpus u.parts owners) seen own) group);
         does = does;
@@ -167,7 +168,7 @@ module _ (t : KnownTable) (m : KnownMachine) (c : KnownCpuLists) (ok : IsConsist
       ]
 
   pub lent_moved : (blocks : List Block) → AreMaximalBlocks (free_of (slice_set m.frame_states f (Lent c.number))) blocks → (run : KnownRun) → Records t m.run (lend_steps c.number f) run
-      → (sums : List ℕ) (owners : List (Option ℕ)) → AreBooked t.cpus (left_by t m.run.past).parts sums → AreOwners t.cpus (left_by t m.run.past).parts owners
+      → (sums : List ℕ) (owners : List (Option ℕ)) → AreBooked (length m.killed) t.cpus (left_by t m.run.past).parts sums → AreOwners t.cpus (left_by t m.run.past).parts owners
       → AllMoved t m c (LendsFrame f) (lend_steps c.number f) (record m { blocks = blocks; frame_states = slice_set m.frame_states f (Lent c.number); run = run })
       (record c { list = c.list ++ f ∷ [] }) (free_of (slice_set m.frame_states f (Lent c.number))) sums owners
   lent_moved blocks areas run noted sums owners are own =
@@ -187,7 +188,7 @@ module _ (t : KnownTable) (m now : KnownMachine) (same : m ≡ now) (c : KnownCp
   may_lend = lend_legal t m c ok (visits_here t m now same c visit) f inside free_here
 
   pub lent_all : (d : KnownCpuLists) (before free : List Bool) (blocks : List Block) (i q : ℕ) (sums : List ℕ) (owners : List (Option ℕ)) → before ≡ free_of m.frame_states
-      → AreBooked t.cpus (left_by t m.run.past).parts sums → AreOwners t.cpus (left_by t m.run.past).parts owners
+      → AreBooked (length m.killed) t.cpus (left_by t m.run.past).parts sums → AreOwners t.cpus (left_by t m.run.past).parts owners
       → TakesFrames before (record { at = i; order = 0 }) free → AreMaximalBlocks free blocks → i ≡ f → q ≡ c.number → d ≡ record c { list = c.list ++ f ∷ [] }
       → (run : KnownRun) → Records t m.run (lend_steps c.number f) run
       → AllMoved t now c (LendsFrame f) (lend_steps c.number f) (record m { blocks = blocks; frame_states = slice_set m.frame_states i (Lent q); run = run }) d free sums owners
@@ -257,7 +258,7 @@ module _ (t : KnownTable) (m now : KnownMachine) (same : m ≡ now) (c : KnownCp
   pub may_lend_first : AreLegal (local_of t m) (lend_steps c.number f)
   may_lend_first = may_lend t m now same c visit ok f first_inside first_free
 
-  pub first_lent : (d : KnownCpuLists) (blocks : List Block) (i q : ℕ) (sums : List ℕ) (owners : List (Option ℕ)) → AreBooked t.cpus (left_by t m.run.past).parts sums
+  pub first_lent : (d : KnownCpuLists) (blocks : List Block) (i q : ℕ) (sums : List ℕ) (owners : List (Option ℕ)) → AreBooked (length m.killed) t.cpus (left_by t m.run.past).parts sums
       → AreOwners t.cpus (left_by t m.run.past).parts owners → AreMaximalBlocks free blocks → i ≡ f → q ≡ c.number → d ≡ record c { list = c.list ++ f ∷ [] }
       → (run : KnownRun) → Records t m.run (lend_steps c.number f) run
       → AllMoved t now c (LendsOne f) (lend_steps c.number f) (record m { blocks = blocks; frame_states = slice_set m.frame_states i (Lent q); run = run }) d free sums owners

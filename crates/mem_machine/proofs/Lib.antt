@@ -41,6 +41,7 @@ pub mod Releases
 pub mod Evicts
 pub mod OneGroup
 pub mod Booking
+pub mod Entries
 pub mod ChargedFrames
 pub mod OwnFrames
 pub mod HandOvers

@@ -1,14 +1,14 @@
 -- The lists of one group changed: its units were marked, moved or dirtied. Each frame is on a list of the same group as
 -- before, and the lists of all other groups stay. Serves all calls that change a list.
 use Rattle.std.proofs.Common.{◌≡◌, ◌≢◌, ℕ, ◌<◌, ◌==◌, ◌||◌, ◌⊎◌, Bool, true, false, Option, Some, None, List, [], ◌∷◌, ◌++◌, length, map, refl, sym, ap, ◌∙◌}
-use Rattle.std.proofs.Common.{subst, inl, inr, eq-eqb, cond, get_or, arith}
-use Rattle.group_tree.specs.Bounds.{most_groups}
+use Rattle.group_tree.specs.Groups.{room_of}
+use Rattle.std.proofs.Common.{◌≤◌, subst, inl, inr, eq-eqb, cond, get_or}
 use Rattle.boot_words.specs.Tables.{KnownTable}
 use Rattle.mem_machine.specs.FrameStates.{frame_state_at}
 use Rattle.std.specs.Prelude.{is_some, option_map, slice_set}
 use Rattle.step_rules.specs.State.{one_if}
-use Rattle.std.proofs.lemmas.List.{get_or-set_other}
-use Rattle.std.proofs.lemmas.Bool.{cases_eq, ne_eqb, or_left, or_right}
+use Rattle.std.proofs.lemmas.List.{get_or-set_other, get_or_past}
+use Rattle.std.proofs.lemmas.Bool.{cases_eq, ne_eqb, or_left, or_right, cases_lt}
 use Rattle.std.proofs.lemmas.Option.{none-some}
 use Rattle.lru_lists.specs.declared.record.Link.{Link}
 use Rattle.lru_lists.specs.declared.record.Home.{Home}
@@ -21,7 +21,7 @@ use Rattle.lru_lists.specs.{home_in, queue_of, entries_of, entry_of, inactive_of
 use Rattle.lru_lists.specs.declared.lru.Touched.{Touched}
 use Rattle.lru_lists.specs.declared.lru.Touched.TheVariants as touch
 use Rattle.mem_machine.specs.declared.frame_state.FrameState.{FrameState}
-use Rattle.mem_machine.specs.Machines.{FitsFrameState, OthersStay, no_lists, group_lists, KnownMachine, IsConsistent, home_of}
+use Rattle.mem_machine.specs.Machines.{FitsFrameState, OthersStay, lists_at, no_lists, group_lists, KnownMachine, IsConsistent, home_of}
 
 cases_none : (o : Option LruList) → (o ≡ None) ⊎ (o ≢ None)
 cases_none None = inl refl
@@ -56,12 +56,12 @@ home_of_list (Some h) lru list is = elim (cases_eq h.owner lru.owner) [
 ]
 
 -- a record fits as before if the frame is on a list of the same owner
-pub fits_home : (h k : Option Home) (frame_state : FrameState) → option_map (λ (x : Home). x.owner) k ≡ option_map (λ (x : Home). x.owner) h
-    → FitsFrameState h frame_state → FitsFrameState k frame_state
-fits_home None None frame_state same fits = fits
-fits_home None (Some k) frame_state same fits = absurd (none-some k.owner (sym same))
-fits_home (Some h) None frame_state same fits = absurd (none-some h.owner same)
-fits_home (Some h) (Some k) frame_state same fits = (subst (λ (n : ℕ). n < most_groups) (sym (some_same 0 k.owner h.owner same)) fits.0, fits.1 ∙ sym same)
+pub fits_home : (room : ℕ) (h k : Option Home) (frame_state : FrameState) → option_map (λ (x : Home). x.owner) k ≡ option_map (λ (x : Home). x.owner) h
+    → FitsFrameState room h frame_state → FitsFrameState room k frame_state
+fits_home room None None frame_state same fits = fits
+fits_home room None (Some k) frame_state same fits = absurd (none-some k.owner (sym same))
+fits_home room (Some h) None frame_state same fits = absurd (none-some h.owner same)
+fits_home room (Some h) (Some k) frame_state same fits = (subst (λ (n : ℕ). n < room) (sym (some_same 0 k.owner h.owner same)) fits.0, fits.1 ∙ sym same)
 
 -- a frame on no list, which no owner has afterwards, has the record that it had
 none_stays : (h k : Option Home) → option_map (λ (x : Home). x.owner) k ≡ option_map (λ (x : Home). x.owner) h → h ≡ None → k ≡ None
@@ -243,15 +243,25 @@ touched_owners before after lru new f touched old stands owner changes on touche
 
 -- ---- the lists of all other groups
 
+-- a group that there is no room for has no unit
+pub no_entries : (links : List Link) (list : LruList) → entries_of links no_lists list ≡ []
+no_entries links Inactive = refl
+no_entries links Active = refl
+
+pub none_beyond : (links : List Link) (lists : List Lru) (g : ℕ) → length lists ≤ g → (list : LruList) → entries_of links (lists_at lists g) list ≡ []
+none_beyond links lists g past list = ap (λ (x : Lru). entries_of links x list) (get_or_past lists g no_lists past) ∙ no_entries links list
+
 -- if the lists of one group change, those of every other group are unchanged
-pub others_stay : (before after : List Link) (lists : List Lru) (g : ℕ) (lru new : Lru) → AllLinked before lists → length lists ≡ most_groups → lru.owner ≡ g
+pub others_stay : (before after : List Link) (lists : List Lru) (g : ℕ) (lru new : Lru) → AllLinked before lists → lru.owner ≡ g
     → ChangesOwn before after lru.owner → OthersStayLinked → OthersStay g (group_lists before lists) (group_lists after (slice_set lists g new))
-others_stay before after lists g lru new all sized own changes others_stay_linked h list within ne =
-    let inside : h < length lists = omega (arith, within, sized) in
-    let apart : (get_or lists h no_lists).owner ≢ lru.owner = λ e. ne (sym (all h no_lists inside).0 ∙ e ∙ own) in
-    let same = (others_stay_linked before after lru.owner (get_or lists h no_lists) changes apart (all h no_lists inside).1).1 in
+others_stay before after lists g lru new all own changes others_stay_linked h list within ne =
     let stays : get_or (slice_set lists g new) h no_lists ≡ get_or lists h no_lists = get_or-set_other lists g h new no_lists ne in
-    ap (λ (x : Lru). entries_of after x list) stays ∙ same list
+    ap (λ (x : Lru). entries_of after x list) stays ∙ elim (cases_lt h (length lists)) [
+      | inl inside ↦
+          let apart : (get_or lists h no_lists).owner ≢ lru.owner = λ e. ne (sym (all h no_lists inside).0 ∙ e ∙ own) in
+          (others_stay_linked before after lru.owner (get_or lists h no_lists) changes apart (all h no_lists inside).1).1 list
+      | inr past ↦ none_beyond after lists h past list ∙ sym (none_beyond before lists h past list)
+    ]
 
 -- if each frame is on a list of the same group as before, the machine is consistent again
 pub lists_consistent : (t : KnownTable) (m : KnownMachine) → IsConsistent t m → (links : List Link) (lists : List Lru) → length links ≡ length m.links
@@ -261,7 +271,7 @@ lists_consistent t m ok links lists linked listed owners all = record {
   choice = ok.choice;
   sizes = record { frame_states = ok.sizes.frame_states; links = linked ∙ ok.sizes.links; lists = listed ∙ ok.sizes.lists; killed = ok.sizes.killed };
   areas = ok.areas;
-  frame_states = λ f within. fits_home (home_of m.links f) (home_of links f) (frame_state_at m.frame_states f) (owners f) (ok.frame_states f within);
+  frame_states = λ f within. fits_home (room_of m.ledger.groups) (home_of m.links f) (home_of links f) (frame_state_at m.frame_states f) (owners f) (ok.frame_states f within);
   units = ok.units;
   lists = all;
   balances = ok.balances;

@@ -1,14 +1,15 @@
 -- The units of one list, as entries. Serves walks over a list, in the crates above too.
-use Rattle.std.proofs.Common.{◌≡◌, ℕ, ◌<◌, ◌==◌, ◌||◌, Bool, true, false, Some, List, [], ◌∷◌, ◌++◌, map, length, refl, sym, ap, ◌∙◌, inl, inr, arith, eq-eqb}
+use Rattle.std.proofs.Common.{◌≡◌, ℕ, ◌<◌, ◌==◌, ◌||◌, Bool, true, false, Option, Some, List, [], ◌∷◌, ◌++◌, map, length, refl, sym, ap, ◌∙◌, subst, inl, inr, arith, eq-eqb}
+use Rattle.mem_machine.proofs.OneGroup.{no_units}
+use Rattle.mem_machine.proofs.Listed.{none_beyond, place_here}
 use Rattle.std.proofs.lemmas.Bool.{cases_eq, cases_lt, ne_eqb, or_parts, false≢true}
 use Rattle.std.proofs.lemmas.Option.{none-some}
 use Rattle.std.proofs.lemmas.List.{get_or_past}
-use Rattle.group_tree.specs.Bounds.{most_groups}
 use Rattle.lru_lists.specs.declared.record.Link.{Link}
 use Rattle.lru_lists.specs.declared.record.Home.{Home}
 use Rattle.lru_lists.specs.declared.record.Entry.{Entry}
 use Rattle.lru_lists.specs.declared.record.LruList.{LruList}
-use Rattle.lru_lists.specs.{link_at, nowhere, is_among, HasNoRepeats, units_of, entries_without, entry_after, first_entry, entry_of, queue_of}
+use Rattle.lru_lists.specs.{link_at, list_at, nowhere, is_among, HasNoRepeats, units_of, entries_without, entry_after, first_entry, entry_of, queue_of}
 use Rattle.boot_words.specs.Tables.{KnownTable}
 use Rattle.mem_machine.specs.{KnownMachine, IsConsistent, home_of, lists_at, no_lists, entries_in}
 
@@ -84,11 +85,8 @@ map_read : (links : List Link) (units : List ℕ) → AreAsRead links (map (entr
 map_read links [] = tt
 map_read links (x ∷ xs) = (refl, map_read links xs)
 
-pub listed_is : (t : KnownTable) (m : KnownMachine) → IsConsistent t m → (g : ℕ) → g < most_groups → (list : LruList)
-    → IsListed m g list (entries_in m g list)
-listed_is t m ok g fits list =
-    let sized = ok.sizes.lists in
-    let there : g < length m.lists = omega (arith, fits, sized) in
+there_listed : (t : KnownTable) (m : KnownMachine) → IsConsistent t m → (g : ℕ) → g < length m.lists → (list : LruList) → IsListed m g list (entries_in m g list)
+there_listed t m ok g there list =
     let stand = ok.lists g no_lists there in
     let linked = stand.1 list in
     let units : List ℕ = units_of m.links (queue_of (lists_at m.lists g) list) in
@@ -100,6 +98,17 @@ listed_is t m ok g fits list =
       at_home = λ f is. map_has m.links units f ∙ linked.at_home f (is ∙ sym home);
       read = map_read m.links units;
     }
+
+pub listed_is : (t : KnownTable) (m : KnownMachine) → IsConsistent t m → (g : ℕ) (list : LruList) → IsListed m g list (entries_in m g list)
+listed_is t m ok g list = elim (cases_lt g (length m.lists)) [
+  | inl there ↦ there_listed t m ok g there list
+  | inr past ↦ subst (IsListed m g list) (sym (none_beyond m.links m.lists g past list)) (record {
+    apart = tt;
+    homes = λ f is. absurd (false≢true is);
+    at_home = λ f is. absurd (none-some list (sym (no_units t m ok g past f) ∙ ap (λ (h : Option Home). list_at h g) is ∙ place_here g list));
+    read = tt;
+  })
+]
 
 -- a frame that is on a list is one of the zone's
 pub home_inside : (t : KnownTable) (m : KnownMachine) → IsConsistent t m → (f : ℕ) (h : Home) → home_of m.links f ≡ Some h → f < t.frames

@@ -1,5 +1,5 @@
 -- The lock is taken and released, and a CPU and the zone meet. Serves `lock`, `unlock` and `meet`.
-use Rattle.std.proofs.Common.{◌≡◌, ◌≢◌, ℕ, ◌==◌, true, ◌++◌, refl, sym, ap, ◌∙◌, subst, inr, eq-eqb}
+use Rattle.std.proofs.Common.{◌≡◌, ◌≢◌, ℕ, ◌==◌, true, ◌++◌, length, refl, sym, ap, ◌∙◌, subst, inr, eq-eqb}
 use Rattle.std.proofs.lemmas.Bool.{and_from}
 use Rattle.step_rules.specs.declared.phase.Hold.{Hold}
 use Rattle.step_rules.specs.declared.phase.Hold.TheVariants.{HeldBy, Unheld}
@@ -55,7 +55,7 @@ module _ {N : Type 0} (t : KnownTable) (fields : Inside N) (ok : IsSoundMachine 
         };
         free = ok.free;
         clean = ok.clean;
-        sums = subst (λ (u : State). AreBooked t.cpus u.parts fields.sums) (sym found) (record { size = ok.sums.size; each = ok.sums.each });
+        sums = subst (λ (u : State). AreBooked (length fields.killed.items) t.cpus u.parts fields.sums.items) (sym found) (record { size = ok.sums.size; each = ok.sums.each });
         owners = subst (λ (u : State). AreOwners t.cpus u.parts fields.owners) (sym found)
             (record { size = ok.owners.size; few = ok.owners.few; each = ok.owners.each; beyond = ok.owners.beyond });
       }

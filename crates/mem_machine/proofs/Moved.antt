@@ -9,7 +9,6 @@ use Rattle.std.proofs.lemmas.Option.{none-some}
 use Rattle.std.proofs.lemmas.List.{get_or-set_same, get_or-set_other}
 use Rattle.zone_blocks.specs.Zone.{IsInUse}
 use Rattle.group_charge.specs.Charges.{pages_of}
-use Rattle.group_tree.specs.Bounds.{most_groups}
 use Rattle.lru_lists.specs.declared.record.Home.{Home}
 use Rattle.stock_word.specs.Stock.{group_base}
 use Rattle.step_rules.specs.declared.phase.ChargedUnit.{ChargedUnit}
@@ -192,9 +191,9 @@ module _ (t : KnownTable) (m n : KnownMachine) (s : State) (shown : IsShownBy t 
   }
 
   -- the sums are those of the books
-  pub sums_moved : (before after : List ℕ) → AreBooked t.cpus (hide s).parts before → length after ≡ length before
-      → ((g : ℕ) → g < most_groups → get_or after g 0 ≡ pages_booked t.cpus (with_at s.parts p part) g)
-      → AreBooked t.cpus (hide (record s { phases = ph; parts = with_at s.parts p part; references = references })).parts after
+  pub sums_moved : {room : ℕ} (before after : List ℕ) → AreBooked room t.cpus (hide s).parts before → length after ≡ length before
+      → ((g : ℕ) → get_or after g 0 ≡ pages_booked t.cpus (with_at s.parts p part) g)
+      → AreBooked room t.cpus (hide (record s { phases = ph; parts = with_at s.parts p part; references = references })).parts after
   sums_moved before after are size each = record { size = size ∙ are.size; each = each }
 
   -- the groups of the stocks stay
@@ -322,7 +321,7 @@ pub record AllMoved (t : KnownTable) (now : KnownMachine) (c : KnownCpuLists) (D
     (free : List Bool) (sums : List ℕ) (owners : List (Option ℕ)) : Type 0 where
   pub consistent : IsConsistent t n
   pub free_is : free ≡ free_of n.frame_states
-  pub sums_are : AreBooked t.cpus (left_by t n.run.past).parts sums
+  pub sums_are : AreBooked (length n.killed) t.cpus (left_by t n.run.past).parts sums
   pub owners_are : AreOwners t.cpus (left_by t n.run.past).parts owners
   pub does : Does (visit_state now c) (visit_state n d)
   pub visit : Visits t n d

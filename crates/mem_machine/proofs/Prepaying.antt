@@ -3,10 +3,11 @@ use Rattle.std.proofs.Common.{◌≡◌, ℕ, ◌+◌, ◌-◌, ◌<◌, ◌≤�
 use Rattle.std.specs.List.{fold}
 use Rattle.std.specs.Prelude.{slice_set}
 use Rattle.std.proofs.lemmas.Bool.{and_from, le-leb}
-use Rattle.group_tree.specs.Bounds.{most_groups}
 use Rattle.group_tree.specs.declared.group.Group.{Group}
 use Rattle.group_tree.specs.Groups.{has_group}
 use Rattle.group_tree.specs.Room as room
+use Rattle.group_tree.proofs.CallerLemmas.{number_in_room}
+use Rattle.mem_machine.proofs.Entries.{entry_read, entry_set}
 use Rattle.group_charge.specs.Charges.{Ledger, AreCharges, current_of, with_charge}
 use Rattle.group_charge.proofs.CallerLemmas.{charge_pages}
 use Rattle.stock_word.specs.Stock.{group_base}
@@ -74,7 +75,7 @@ module _ (t : KnownTable) (m : KnownMachine) (u : State) (ok : IsShownBy t m u) 
         omega (arith, all, rise, books);
   }
 
-  fill_sums : (sums : List ℕ) → AreBooked t.cpus u.parts sums → g < most_groups → AreBooked t.cpus (fill_state u p g k).parts (slice_set sums g (get_or sums g 0 + k))
+  fill_sums : (sums : List ℕ) → AreBooked (length m.killed) t.cpus u.parts sums → g < length m.killed → AreBooked (length m.killed) t.cpus (fill_state u p g k).parts (slice_set sums g (get_or sums g 0 + k))
   fill_sums sums are fits = sums_more t.cpus u.parts p inside (filled (u.parts p) g k) g k empty refl more sums are fits
 
 -- ---- the steps
@@ -180,9 +181,9 @@ module _ (t : KnownTable) (m : KnownMachine) (c : KnownCpuLists) (ok : IsConsist
               (fill_shown t m (left_by t m.run.past) ok.shown c.number g k filler_is.1 booked_left facts there small run);
         })
 
-        pub filled_sums : (sums : List ℕ) → AreBooked t.cpus (left_by t m.run.past).parts sums → g < most_groups
-            → AreBooked t.cpus (left_by t run.past).parts (slice_set sums g (get_or sums g 0 + k))
-        filled_sums sums are fits = subst (λ (s : State). AreBooked t.cpus s.parts (slice_set sums g (get_or sums g 0 + k))) (sym fill_left)
+        pub filled_sums : (sums : List ℕ) → AreBooked (length m.killed) t.cpus (left_by t m.run.past).parts sums → g < length m.killed
+            → AreBooked (length m.killed) t.cpus (left_by t run.past).parts (slice_set sums g (get_or sums g 0 + k))
+        filled_sums sums are fits = subst (λ (s : State). AreBooked (length m.killed) t.cpus s.parts (slice_set sums g (get_or sums g 0 + k))) (sym fill_left)
             (fill_sums t m (left_by t m.run.past) ok.shown c.number g k filler_is.1 booked_left sums are fits)
 
         pub filled_owners : (owners : List (Option ℕ)) → AreOwners t.cpus (left_by t m.run.past).parts owners
@@ -253,32 +254,38 @@ module _ {N : Type 0} (t : KnownTable) (fields : Inside N) (ok : IsSoundMachine 
   abbrev m : KnownMachine
   m = machine_of fields
 
+  -- the group is one of those that the machine has room for, and so has a sum
+  group_inside : g < length fields.killed.items
+  group_inside =
+      let low = number_in_room fields.charges.groups g facts.groups knows.there in
+      let size = ok.consistent.sizes.killed in
+      omega (arith, low, size)
+
+  pub fill_entry : g < length fields.sums.items
+  fill_entry = let low = group_inside in let size = ok.sums.size in omega (arith, low, size)
+
   -- the group's sum doesn't overflow
-  pub fill_fits : (now : KnownMachine) → machine_of fields ≡ now → HasRoomFor now k → (i : ℕ) → i ≡ g → i < most_groups → get_or fields.sums i 0 + k < 2 ^ 32
-  fill_fits now same room i is low =
-      let booked = room_booked t m m refl ok.consistent facts g k knows.there (subst (λ (x : KnownMachine). HasRoomFor x k) (sym same) room) i is in
-      let sum = ok.sums.each i low in
-      omega (arith, booked, sum)
+  pub fill_fits : (now : KnownMachine) → machine_of fields ≡ now → HasRoomFor now k → (i x : ℕ) → i ≡ g → x ≡ get_or fields.sums.items i x → x + k < 2 ^ 32
+  fill_fits now same room i x is read =
+      let booked = room_booked t m m refl ok.consistent facts g k knows.there (subst (λ (x : KnownMachine). HasRoomFor x k) (sym same) room) g refl in
+      let sum = ok.sums.each g in
+      let own = entry_read fields.sums.items i g x is fill_entry read in
+      omega (arith, booked, sum, own)
 
   module _ (has : room.PathHasRoom fields.charges.groups (current_of fields.charges) g k) (run : KnownRun) (noted : Records t (machine_of fields).run (fill_steps c.number g k) run) where
-    pub filled_sound : k < group_base → (i : ℕ) → i ≡ g → i < most_groups → (n : ℕ) → n ≡ c.number → (charges : Ledger) → charges ≡ with_charge fields.charges g k → (owners : List (Option ℕ))
-        → owners ≡ slice_set fields.owners (n - 1) (Some g)
-        → IsSoundMachine {N = N} t (record fields {
-          charges = charges;
-          sums = slice_set fields.sums i (get_or fields.sums i 0 + k);
-          owners = owners;
-          past = run.past;
-          watch = run.watch;
-        })
-    filled_sound small i is low n number charges charged owners set = record {
-      consistent = filled_consistent t m c ok.consistent facts knows.visit none knows.drained g k knows.there knows.alive has run noted small charges charged;
-      free = ok.free;
-      clean = ok.clean;
-      sums = subst (λ (x : ℕ). AreBooked t.cpus (left_by t run.past).parts (slice_set fields.sums x (get_or fields.sums x 0 + k))) (sym is)
-          (filled_sums t m c ok.consistent facts knows.visit none knows.drained g k knows.there knows.alive has run noted fields.sums ok.sums (subst (λ (x : ℕ). x < most_groups) is low));
-      owners = subst (AreOwners t.cpus (left_by t run.past).parts) (sym (set ∙ ap (λ (x : ℕ). slice_set fields.owners (x - 1) (Some g)) number))
-          (filled_owners t m c ok.consistent facts knows.visit none knows.drained g k knows.there knows.alive has run noted fields.owners ok.owners);
-    }
+    pub sound_consistent : k < group_base → (charges : Ledger) → charges ≡ with_charge fields.charges g k → IsConsistent t (record (machine_of fields) { ledger = charges; run = run })
+    sound_consistent small charges charged = filled_consistent t m c ok.consistent facts knows.visit none knows.drained g k knows.there knows.alive has run noted small charges charged
+
+    pub sound_sums : (i x : ℕ) → i ≡ g → x ≡ get_or fields.sums.items i x
+        → AreBooked (length fields.killed.items) t.cpus (left_by t run.past).parts (slice_set fields.sums.items i (x + k))
+    sound_sums i x is read = subst (AreBooked (length fields.killed.items) t.cpus (left_by t run.past).parts)
+        (sym (entry_set (λ (sum : ℕ). sum + k) fields.sums.items i g x is fill_entry read))
+        (filled_sums t m c ok.consistent facts knows.visit none knows.drained g k knows.there knows.alive has run noted fields.sums.items ok.sums group_inside)
+
+    pub sound_owners : (n : ℕ) → n ≡ c.number → (owners : List (Option ℕ)) → owners ≡ slice_set fields.owners (n - 1) (Some g)
+        → AreOwners t.cpus (left_by t run.past).parts owners
+    sound_owners n number owners set = subst (AreOwners t.cpus (left_by t run.past).parts) (sym (set ∙ ap (λ (x : ℕ). slice_set fields.owners (x - 1) (Some g)) number))
+        (filled_owners t m c ok.consistent facts knows.visit none knows.drained g k knows.there knows.alive has run noted fields.owners ok.owners)
 
 -- what a fill leaves, of the machine as it was seen before
 pub record AllFilled (t : KnownTable) (now : KnownMachine) (c : KnownCpuLists) (g k : ℕ) (after : KnownMachine) : Type 0 where

@@ -5,7 +5,6 @@ use Rattle.std.specs.Prelude.{is_some, nat_le}
 use Rattle.std.proofs.lemmas.Bool.{and_from, cases_eq, false≢true, lt-ltb, le-leb}
 use Rattle.std.proofs.lemmas.List.{get_or_default}
 use Rattle.std.proofs.lemmas.Option.{none-some}
-use Rattle.group_tree.specs.Bounds.{most_groups}
 use Rattle.zone_blocks.specs.declared.block.Block.{Block}
 use Rattle.zone_blocks.specs.{AreMaximalBlocks, GivesFrames}
 use Rattle.group_charge.specs.{Ledger, with_uncharge, KnownNotes}
@@ -36,6 +35,7 @@ use Rattle.mem_machine.specs.declared.counts.Counts.{Counts}
 use Rattle.mem_machine.specs.declared.frame_state.FrameState.{FrameState}
 use Rattle.mem_machine.specs.declared.frame_state.FrameState.TheVariants.{Free, Head}
 use Rattle.mem_machine.specs.{frame_state_at, free_of, phase_hidden, FreesFrames, LeavesList, Releases, release_steps, with_last_put}
+use Rattle.group_tree.specs.Groups.{room_of}
 use Rattle.mem_machine.specs.{one_more_last_put, Makes, StaysVisited, lock_holder, local_of, KnownMachine, BalancesCounts, FitsFrameState}
 use Rattle.mem_machine.specs.{IsConsistent, IsShownBy, group_lists, home_of, left_by, lists_of, pages_booked, KnownRun, MayTake, Records}
 use Rattle.mem_machine.specs.declared.releasing.Released.{Released}
@@ -133,7 +133,7 @@ module _ (t : KnownTable) (m : KnownMachine) (ok : IsConsistent t m) (held : IsH
 
     -- ---- references of CPUs are left
 
-    module _ (left : ℕ) (stand : AllLinked links lists) (linked : length links ≡ t.frames) (listed : length lists ≡ most_groups) (run : KnownRun)
+    module _ (left : ℕ) (stand : AllLinked links lists) (linked : length links ≡ t.frames) (listed : length lists ≡ length m.lists) (run : KnownRun)
         (noted : Records t m.run (zone_makes (Put f) (answer.Left left) ∷ []) run) where
       abbrev then : KnownMachine
       then = record m { links = links; lists = lists; run = run }
@@ -141,11 +141,11 @@ module _ (t : KnownTable) (m : KnownMachine) (ok : IsConsistent t m) (held : IsH
       pub left_consistent : IsConsistent t (record m { links = links; lists = lists; run = run })
       left_consistent = record {
         choice = ok.choice;
-        sizes = record { frame_states = ok.sizes.frame_states; links = linked; lists = listed; killed = ok.sizes.killed };
+        sizes = record { frame_states = ok.sizes.frame_states; links = linked; lists = listed ∙ ok.sizes.lists; killed = ok.sizes.killed };
         areas = ok.areas;
         frame_states = λ g within. elim (cases_eq g f) [
-          | inl e ↦ subst (λ (h : Option Home). FitsFrameState h (frame_state_at m.frame_states g)) (sym (ap (home_of links) e ∙ homeless)) tt
-          | inr ne ↦ subst (λ (h : Option Home). FitsFrameState h (frame_state_at m.frame_states g)) (sym (leaves.homes g ne)) (ok.frame_states g within)
+          | inl e ↦ subst (λ (h : Option Home). FitsFrameState (room_of m.ledger.groups) h (frame_state_at m.frame_states g)) (sym (ap (home_of links) e ∙ homeless)) tt
+          | inr ne ↦ subst (λ (h : Option Home). FitsFrameState (room_of m.ledger.groups) h (frame_state_at m.frame_states g)) (sym (leaves.homes g ne)) (ok.frame_states g within)
         ];
         units = ok.units;
         lists = stand;
@@ -166,7 +166,7 @@ module _ (t : KnownTable) (m : KnownMachine) (ok : IsConsistent t m) (held : IsH
 
     module _ (unit : ChargedUnit) (heads : frame_state_at m.frame_states f ≡ Head unit) where
       module _ (frame_states : List FrameState) (frees : FreesFrames f (2 ^ unit.order) m.frame_states frame_states) (blocks : List Block)
-          (areas : AreMaximalBlocks (free_of frame_states) blocks) (stand : AllLinked links lists) (linked : length links ≡ t.frames) (listed : length lists ≡ most_groups)
+          (areas : AreMaximalBlocks (free_of frame_states) blocks) (stand : AllLinked links lists) (linked : length links ≡ t.frames) (listed : length lists ≡ length m.lists)
           (counts : Counts) (balances : BalancesCounts counts) (notes : KnownNotes) (run : KnownRun) where
         abbrev freed : KnownMachine
         freed = record m {
@@ -207,7 +207,7 @@ module _ (t : KnownTable) (m : KnownMachine) (ok : IsConsistent t m) (held : IsH
         })
         freed_consistent left = record {
           choice = ok.choice;
-          sizes = record { frame_states = frees.frames ∙ ok.sizes.frame_states; links = linked; lists = listed; killed = ok.sizes.killed };
+          sizes = record { frame_states = frees.frames ∙ ok.sizes.frame_states; links = linked; lists = listed ∙ ok.sizes.lists; killed = ok.sizes.killed };
           areas = areas;
           frame_states = homes_fit t m ok f unit heads frame_states frees links leaves.homes homeless;
           units = units_freed m.frame_states frame_states f unit heads ok.units frees;
@@ -281,7 +281,7 @@ pub record AllReleased (t : KnownTable) (now n : KnownMachine) (f : ℕ) (result
 
 module _ (t : KnownTable) (m : KnownMachine) (ok : IsConsistent t m) (held : IsHeld t m.run.past) (f : ℕ) (inside : f < t.frames) (kept : home_of m.links f ≢ None)
     (links : List Link) (lists : List Lru) (leaves : LeavesList f (lists_of m) (group_lists links lists)) (stand : AllLinked links lists)
-    (linked : length links ≡ t.frames) (listed : length lists ≡ most_groups) (run : KnownRun) where
+    (linked : length links ≡ t.frames) (listed : length lists ≡ length m.lists) (run : KnownRun) where
   -- references of CPUs are left
   left_here : (left : ℕ) → 1 ≤ left → Records t m.run (release_steps f (Left left)) run → (free : List Bool) → free ≡ free_of m.frame_states
       → AllReleased t m (record m { links = links; lists = lists; run = run }) f (Left left) free
@@ -341,7 +341,7 @@ module _ (t : KnownTable) (m : KnownMachine) (ok : IsConsistent t m) (held : IsH
 -- ---- the same of the machine as it was seen before
 
 pub left_all : (t : KnownTable) (m now : KnownMachine) → m ≡ now → IsConsistent t m → (f i : ℕ) → f < t.frames → i ≡ f → home_of now.links f ≢ None → IsHeld t now.run.past
-    → (links : List Link) (lists : List Lru) → LeavesList i (lists_of m) (group_lists links lists) → AllLinked links lists → length links ≡ length m.links → length lists ≡ most_groups
+    → (links : List Link) (lists : List Lru) → LeavesList i (lists_of m) (group_lists links lists) → AllLinked links lists → length links ≡ length m.links → length lists ≡ length m.lists
     → (left : ℕ) → 1 ≤ left → (run : KnownRun) → Records t m.run (release_steps f (Left left)) run → (free : List Bool) → free ≡ free_of m.frame_states
     → AllReleased t now (record m { links = links; lists = lists; run = run }) f (Left left) free
 left_all t m now same ok f i inside is kept held links lists leaves stand linked listed left some run noted free was =
@@ -350,7 +350,7 @@ left_all t m now same ok f i inside is kept held links lists leaves stand linked
     (subst (λ (x : ℕ). LeavesList x (lists_of m) (group_lists links lists)) is leaves) stand (linked ∙ ok.sizes.links) listed run left some noted free was)
 
 pub returned_all : (t : KnownTable) (m now : KnownMachine) → m ≡ now → IsConsistent t m → (f i : ℕ) → f < t.frames → i ≡ f → home_of now.links f ≢ None → IsHeld t now.run.past
-    → (links : List Link) (lists : List Lru) → LeavesList i (lists_of m) (group_lists links lists) → AllLinked links lists → length links ≡ length m.links → length lists ≡ most_groups
+    → (links : List Link) (lists : List Lru) → LeavesList i (lists_of m) (group_lists links lists) → AllLinked links lists → length links ≡ length m.links → length lists ≡ length m.lists
     → (unit : ChargedUnit) → frame_state_at m.frame_states i ≡ Head unit
     → (before free : List Bool) (blocks : List Block) (frame_states : List FrameState) (ledger : Ledger) (counts : Counts)
     → before ≡ free_of m.frame_states → FreesFrames i (2 ^ unit.order) m.frame_states frame_states → GivesFrames before (record { at = i; order = unit.order }) free

@@ -3,9 +3,7 @@
 use Rattle.std.proofs.Common.{◌≡◌, ℕ, ◌+◌, ◌-◌, ◌<◌, ◌≤◌, Bool, true, false, Option, Some, None, List, [], ◌∷◌, length, refl, sym, ap, ◌∙◌, subst, arith, inl, inr, slice_index_or, unwrap_or}
 use Rattle.std.specs.List.{flat_map, fold}
 use Rattle.std.proofs.lemmas.Bool.{cases_Bool, false≢true}
-use Rattle.std.proofs.lemmas.List.{get_or_default}
 use Rattle.std.proofs.lemmas.Option.{none-some}
-use Rattle.group_tree.specs.Bounds.{most_groups}
 use Rattle.boot_words.specs.Tables.{KnownTable}
 use Rattle.cpu_part.specs.Cpus.{KnownCpuLists}
 use Rattle.step_rules.specs.State.{Part, State, with_at}
@@ -66,13 +64,6 @@ group_stays : (t : KnownTable) (b : Bool) (m n : KnownMachine) (p f q : ℕ) →
 group_stays t b m n p f q held makes =
     ap (λ (u : State). (u.parts q).stock.group) (left_then t m (fresh_steps b p f) n.run held makes.noted)
     ∙ fresh_group_after b (local_of t m) p f q ∙ ap (λ (u : State). (u.parts q).stock.group) (sym (left_seen t m.run.past held))
-
--- the mark of a group that was found set
-pub killed_read : (killed : List Bool) (n g : ℕ) (mark : Bool) → n ≡ g → length killed ≡ most_groups → g < most_groups
-    → mark ≡ slice_index_or killed n mark → mark ≡ true → is_killed killed g ≡ true
-killed_read killed n g mark same size few read on =
-    let inside : g < length killed = omega (arith, size, few) in
-    get_or_default killed g false mark inside ∙ ap (λ (k : ℕ). slice_index_or killed k mark) (sym same) ∙ sym read ∙ on
 
 -- the group that a fresh frame is of is that of the stock
 pub named_group : (t : KnownTable) (m : KnownMachine) (c : KnownCpuLists) (g : ℕ) → stock_group t m c.number ≡ Some g → group_of_fresh t (visit_state m c) ≡ g

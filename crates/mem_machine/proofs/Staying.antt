@@ -1,6 +1,6 @@
 -- The sums and the owners stay through steps that book nothing, and what else they say of a group. Serves all calls under
 -- the lock.
-use Rattle.std.proofs.Common.{◌≡◌, ℕ, ◌+◌, ◌<◌, ◌^◌, false, true, Option, List, sym, ap, ◌∙◌, subst, inl, inr, arith}
+use Rattle.std.proofs.Common.{◌≡◌, ℕ, ◌+◌, ◌<◌, ◌^◌, false, true, Option, List, length, get_or, sym, ap, ◌∙◌, subst, inl, inr, arith}
 use Rattle.std.specs.List.{fold}
 use Rattle.std.proofs.lemmas.Bool.{cases_lt, false≢true}
 use Rattle.group_tree.specs.Groups.{has_group}
@@ -24,10 +24,10 @@ pub record HaveSameBooks (a b : ℕ → Part) : Type 0 where
 -- ---- steps that book nothing
 
 -- the books and the owners of a hidden state are the state's
-pub sums_shown : (cpus : ℕ) (s : State) (sums : List ℕ) → AreBooked cpus s.parts sums → AreBooked cpus (hide s).parts sums
+pub sums_shown : {room : ℕ} (cpus : ℕ) (s : State) (sums : List ℕ) → AreBooked room cpus s.parts sums → AreBooked room cpus (hide s).parts sums
 sums_shown cpus s sums are = record { size = are.size; each = are.each }
 
-pub sums_hidden : (cpus : ℕ) (s : State) (sums : List ℕ) → AreBooked cpus (hide s).parts sums → AreBooked cpus s.parts sums
+pub sums_hidden : {room : ℕ} (cpus : ℕ) (s : State) (sums : List ℕ) → AreBooked room cpus (hide s).parts sums → AreBooked room cpus s.parts sums
 sums_hidden cpus s sums are = record { size = are.size; each = are.each }
 
 pub owners_shown : (cpus : ℕ) (s : State) (owners : List (Option ℕ)) → AreOwners cpus s.parts owners → AreOwners cpus (hide s).parts owners
@@ -38,23 +38,23 @@ owners_hidden cpus s owners are = record { size = are.size; few = are.few; each 
 
 module _ (t : KnownTable) (m : KnownMachine) (is : IsHeld t m.run.past) where
   -- the sums and owners, of what the lock's holder sees
-  pub sums_seen : (sums : List ℕ) → AreBooked t.cpus (left_by t m.run.past).parts sums → AreBooked t.cpus (local_of t m).parts sums
-  sums_seen sums are = sums_hidden t.cpus (local_of t m) sums (subst (λ (u : State). AreBooked t.cpus u.parts sums) (left_seen t m.run.past is) are)
+  pub sums_seen : (sums : List ℕ) → AreBooked (length m.killed) t.cpus (left_by t m.run.past).parts sums → AreBooked (length m.killed) t.cpus (local_of t m).parts sums
+  sums_seen sums are = sums_hidden t.cpus (local_of t m) sums (subst (λ (u : State). AreBooked (length m.killed) t.cpus u.parts sums) (left_seen t m.run.past is) are)
 
   pub owners_seen : (owners : List (Option ℕ)) → AreOwners t.cpus (left_by t m.run.past).parts owners → AreOwners t.cpus (local_of t m).parts owners
   owners_seen owners are = owners_hidden t.cpus (local_of t m) owners (subst (λ (u : State). AreOwners t.cpus u.parts owners) (left_seen t m.run.past is) are)
 
   module _ (steps : Run) (run : KnownRun) (noted : Records t m.run steps run) where
     -- those of what the steps made are those of what is left then
-    pub sums_left : (sums : List ℕ) → AreBooked t.cpus (fold after_made (local_of t m) steps).parts sums → AreBooked t.cpus (left_by t run.past).parts sums
-    sums_left sums are = subst (λ (u : State). AreBooked t.cpus u.parts sums) (sym (left_then t m steps run is noted)) (sums_shown t.cpus (fold after_made (local_of t m) steps) sums are)
+    pub sums_left : (sums : List ℕ) → AreBooked (length m.killed) t.cpus (fold after_made (local_of t m) steps).parts sums → AreBooked (length m.killed) t.cpus (left_by t run.past).parts sums
+    sums_left sums are = subst (λ (u : State). AreBooked (length m.killed) t.cpus u.parts sums) (sym (left_then t m steps run is noted)) (sums_shown t.cpus (fold after_made (local_of t m) steps) sums are)
 
     pub owners_left : (owners : List (Option ℕ)) → AreOwners t.cpus (fold after_made (local_of t m) steps).parts owners → AreOwners t.cpus (left_by t run.past).parts owners
     owners_left owners are = subst (λ (u : State). AreOwners t.cpus u.parts owners) (sym (left_then t m steps run is noted)) (owners_shown t.cpus (fold after_made (local_of t m) steps) owners are)
 
     module _ (same : HaveSameBooks (local_of t m).parts (fold after_made (local_of t m) steps).parts) where
       -- steps that book nothing leave the sums and the owners
-      pub sums_stay : (sums : List ℕ) → AreBooked t.cpus (left_by t m.run.past).parts sums → AreBooked t.cpus (left_by t run.past).parts sums
+      pub sums_stay : (sums : List ℕ) → AreBooked (length m.killed) t.cpus (left_by t m.run.past).parts sums → AreBooked (length m.killed) t.cpus (left_by t run.past).parts sums
       sums_stay sums are = sums_left sums (sums_same t.cpus (local_of t m).parts (fold after_made (local_of t m) steps).parts sums (sums_seen sums are)
           (books_same t.cpus (local_of t m).parts (fold after_made (local_of t m) steps).parts same.book same.group))
 
@@ -74,6 +74,15 @@ room_booked t m now same ok charges g n there fits h is =
     let root = usage-le-root m.ledger g charges in
     let all = ok.shown.charged g in
     omega (arith, own, root, all, few))
+
+-- the frames of a group are what is charged to it and isn't booked to its stocks
+pub frames_rest : {room : ℕ} (t : KnownTable) (m now : KnownMachine) → m ≡ now → IsConsistent t m → (sums : List ℕ) → AreBooked room t.cpus (left_by t m.run.past).parts sums
+    → (g : ℕ) → pages_of m.ledger g ≡ frames_charged now.frame_states g + get_or sums g 0
+frames_rest t m now same ok sums are g =
+    let all = ok.shown.charged g in
+    let sum = are.each g in
+    let here = ap (λ (x : KnownMachine). frames_charged x.frame_states g) same in
+    omega (arith, all, sum, here)
 
 -- a group that isn't there has none
 pub frames_none : (t : KnownTable) (m now : KnownMachine) → m ≡ now → IsConsistent t m → AreCharges m.ledger → (g : ℕ)
@@ -115,6 +124,6 @@ sound_same {N} t fields ok run left =
       };
       free = ok.free;
       clean = ok.clean;
-      sums = subst (λ (s : State). AreBooked t.cpus s.parts fields.sums) (sym left) ok.sums;
+      sums = subst (λ (s : State). AreBooked (length fields.killed.items) t.cpus s.parts fields.sums.items) (sym left) ok.sums;
       owners = subst (λ (s : State). AreOwners t.cpus s.parts fields.owners) (sym left) ok.owners;
     }

@@ -57,7 +57,7 @@ module _ (t : KnownTable) (m : KnownMachine) (c : KnownCpuLists) (ok : IsConsist
   within = let low = front_inside in let sized = ok.sizes.frame_states in omega (arith, low, sized)
 
   pub unlisted_moved : (blocks : List Block) → AreMaximalBlocks (free_of (slice_set m.frame_states f Free)) blocks → (run : KnownRun) → Records t m.run (unlist_steps c.number f) run
-      → (sums : List ℕ) (owners : List (Option ℕ)) → AreBooked t.cpus (left_by t m.run.past).parts sums → AreOwners t.cpus (left_by t m.run.past).parts owners
+      → (sums : List ℕ) (owners : List (Option ℕ)) → AreBooked (length m.killed) t.cpus (left_by t m.run.past).parts sums → AreOwners t.cpus (left_by t m.run.past).parts owners
       → AllMoved t m c (UnlistsOne f) (unlist_steps c.number f) (record m { blocks = blocks; frame_states = slice_set m.frame_states f Free; run = run })
       (record c { list = rest }) (free_of (slice_set m.frame_states f Free)) sums owners
   unlisted_moved blocks areas run noted sums owners are own =
@@ -98,7 +98,7 @@ module _ (t : KnownTable) (m now : KnownMachine) (same : m ≡ now) (c : KnownCp
         lent_in_use m.frame_states before f i k (within t m c ok here f hands.0 hands.1) was (ap is_free_state (is_lent t m c ok here f hands.0 hands.1)) index zero_is
 
     pub unlisted_all : (before free : List Bool) (k : ℕ) (blocks : List Block) (i : ℕ) (sums : List ℕ) (owners : List (Option ℕ)) → before ≡ free_of m.frame_states
-        → AreBooked t.cpus (left_by t m.run.past).parts sums → AreOwners t.cpus (left_by t m.run.past).parts owners → k ≡ 0
+        → AreBooked (length m.killed) t.cpus (left_by t m.run.past).parts sums → AreOwners t.cpus (left_by t m.run.past).parts owners → k ≡ 0
         → GivesFrames before (record { at = i; order = k }) free → AreMaximalBlocks free blocks → i ≡ f → (run : KnownRun) → Records t m.run (unlist_steps c.number f) run
         → AllMoved t now c (UnlistsOne f) (unlist_steps c.number f) (record m { blocks = blocks; frame_states = slice_set m.frame_states i Free; run = run }) h free sums owners
     unlisted_all before free k blocks i sums owners was are own zero_is gives areas index run noted =

@@ -11,7 +11,8 @@ use Rattle.std.proofs.lemmas.Option.{none-some}
 use Rattle.zone_blocks.specs.declared.block.Block.{Block}
 use Rattle.zone_blocks.specs.{IsBlock, IsFree, IsFreeBlock, AreMaximalBlocks, HasNoneFrom, IsFrontOfSmallest, TakesFrames, block_at}
 use Rattle.zone_blocks.proofs.Halves.{lower_half}
-use Rattle.group_tree.specs.Bounds.{most_groups}
+use Rattle.group_tree.specs.Groups.{room_of}
+use Rattle.group_tree.proofs.CallerLemmas.{number_in_room}
 use Rattle.group_tree.specs.{has_group, PathHasRoom, IsLowestOver}
 use Rattle.group_charge.specs.Charges.{Ledger, current_of, pages_of, with_charge, with_uncharge, PagesRise, AreCharges}
 use Rattle.group_charge.proofs.CallerLemmas.{uncharge_events, uncharge_pages, uncharge_peaks}
@@ -114,9 +115,9 @@ module _ (old : List FrameState) (blocks : List Block) (areas : AreMaximalBlocks
       ])
 
 -- a frame that is charged to no group is on no list
-homeless : (h : Option Home) (x : FrameState) → x ≡ Free → FitsFrameState h x → h ≡ None
-homeless None x is fits = refl
-homeless (Some k) x is fits = absurd (none-some k.owner (subst (λ (y : FrameState). head_group_of y ≡ Some k.owner) is fits.1))
+homeless : (room : ℕ) (h : Option Home) (x : FrameState) → x ≡ Free → FitsFrameState room h x → h ≡ None
+homeless room None x is fits = refl
+homeless room (Some k) x is fits = absurd (none-some k.owner (subst (λ (y : FrameState). head_group_of y ≡ Some k.owner) is fits.1))
 
 -- steps that lead on may be made
 may_steps : (t : KnownTable) (m : KnownMachine) (steps : Run) (b : State) → IsLocalRun (lock_holder m) (local_of t m) steps b → MayTakeAll t m.run.past steps
@@ -160,7 +161,7 @@ module _ (t : KnownTable) (m : KnownMachine) (ok : IsConsistent t m) (facts : Ar
   here_free = let some = pow_pos b.order in free b.at (omega arith) (omega (arith, some))
 
   no_list : home_of m.links b.at ≡ None
-  no_list = homeless (home_of m.links b.at) (frame_state_at m.frame_states b.at) here_free (ok.frame_states b.at inside)
+  no_list = homeless (room_of m.ledger.groups) (home_of m.links b.at) (frame_state_at m.frame_states b.at) here_free (ok.frame_states b.at inside)
 
   unreferred : (local_of t m).references 0 b.at ≡ 0
   unreferred = shown.references b.at ∙ ap (λ (h : Option Home). one_if (is_some h)) no_list
@@ -221,7 +222,7 @@ module _ (t : KnownTable) (m : KnownMachine) (ok : IsConsistent t m) (facts : Ar
   -- ---- what it leaves
 
   module _ (frame_states : List FrameState) (places : PlacesUnit g b m.frame_states frame_states) (links : List Link) (lists : List Lru)
-      (joined : AllJoin m.links m.lists g b.at links lists) (fits : g < most_groups) where
+      (joined : AllJoin m.links m.lists g b.at links lists) (fits : g < room_of m.ledger.groups) where
     phases_then : (f : ℕ) → hide_phase (kept.phases f) ≡ phase_hidden (frame_state_at frame_states f)
     phases_then f = elim (cases_eq f b.at) [
       | inl e ↦ ap hide_phase (ap kept.phases e ∙ head_live) ∙ sym (ap phase_hidden (places.records f ∙ head_of_block m.frame_states g b f e))
@@ -241,14 +242,14 @@ module _ (t : KnownTable) (m : KnownMachine) (ok : IsConsistent t m) (facts : Ar
           ∙ sym (ap (λ (h : Option Home). one_if (is_some h)) (joined.joins.homes f ne))
     ]
 
-    homes_fit : (f : ℕ) → f < t.frames → FitsFrameState (home_of links f) (frame_state_at frame_states f)
+    homes_fit : (f : ℕ) → f < t.frames → FitsFrameState (room_of m.ledger.groups) (home_of links f) (frame_state_at frame_states f)
     homes_fit f within = elim (cases_eq f b.at) [
-      | inl e ↦ subst (λ (x : Option Home × FrameState). FitsFrameState x.0 x.1)
+      | inl e ↦ subst (λ (x : Option Home × FrameState). FitsFrameState (room_of m.ledger.groups) x.0 x.1)
           (λ i. (sym (ap (home_of links) e ∙ joined.joins.home) i, sym (places.records f ∙ head_of_block m.frame_states g b f e) i)) (fits, refl)
-      | inr ne ↦ subst (λ (h : Option Home). FitsFrameState h (frame_state_at frame_states f)) (sym (joined.joins.homes f ne)) (elim (within_cases b.at (2 ^ b.order) f) [
-        | inl w ↦ subst (λ (h : Option Home). FitsFrameState h (frame_state_at frame_states f))
-            (sym (homeless (home_of m.links f) (frame_state_at m.frame_states f) (free f w.1 w.2) (ok.frame_states f within))) tt
-        | inr out ↦ subst (FitsFrameState (home_of m.links f)) (sym (places.records f ∙ off_block m.frame_states g b f out.0)) (ok.frame_states f within)
+      | inr ne ↦ subst (λ (h : Option Home). FitsFrameState (room_of m.ledger.groups) h (frame_state_at frame_states f)) (sym (joined.joins.homes f ne)) (elim (within_cases b.at (2 ^ b.order) f) [
+        | inl w ↦ subst (λ (h : Option Home). FitsFrameState (room_of m.ledger.groups) h (frame_state_at frame_states f))
+            (sym (homeless (room_of m.ledger.groups) (home_of m.links f) (frame_state_at m.frame_states f) (free f w.1 w.2) (ok.frame_states f within))) tt
+        | inr out ↦ subst (FitsFrameState (room_of m.ledger.groups) (home_of m.links f)) (sym (places.records f ∙ off_block m.frame_states g b f out.0)) (ok.frame_states f within)
       ])
     ]
 
@@ -266,7 +267,7 @@ module _ (t : KnownTable) (m : KnownMachine) (ok : IsConsistent t m) (facts : Ar
         sizes = record {
           frame_states = places.frames ∙ ok.sizes.frame_states;
           links = joined.frames ∙ ok.sizes.links;
-          lists = joined.groups;
+          lists = joined.groups ∙ ok.sizes.lists;
           killed = ok.sizes.killed;
         };
         areas = areas;
@@ -309,17 +310,18 @@ pub record AllTaken (t : KnownTable) (now n : KnownMachine) (g k f : ℕ) (free 
   pub visit : StaysVisited t now n
   pub steps : Makes t now (taken_steps g k f) n
 
-pub taken_all : (t : KnownTable) (m now : KnownMachine) → m ≡ now → IsConsistent t m → AreCharges m.ledger → IsHeld t now.run.past → (g : ℕ) → g < most_groups
+pub taken_all : (t : KnownTable) (m now : KnownMachine) → m ≡ now → IsConsistent t m → AreCharges m.ledger → IsHeld t now.run.past → (g : ℕ)
     → (k pages : ℕ) → pages ≡ 2 ^ k → MayCharge now g (2 ^ k) → PathHasRoom m.ledger.groups (current_of m.ledger) g pages → (ledger : Ledger) → ledger ≡ with_charge m.ledger g pages
     → PagesRise m.ledger ledger g pages → (before free : List Bool) (b : Block) (blocks : List Block) → before ≡ free_of m.frame_states
     → IsFrontOfSmallest m.blocks k b → TakesFrames before b free → AreMaximalBlocks free blocks → (frame_states : List FrameState) → PlacesUnit g b m.frame_states frame_states
     → (f : ℕ) → f ≡ b.at → (links : List Link) (lists : List Lru) → AllJoin m.links m.lists g b.at links lists
     → (run : KnownRun) → Records t m.run (taken_steps g k f) run
     → AllTaken t now (record m { blocks = blocks; frame_states = frame_states; ledger = ledger; links = links; lists = lists; run = run }) g k f free
-taken_all t m now same ok facts held_now g fits k pages size may_now room ledger charged rise before free b blocks was front takes areas_free frame_states placed f at links lists
+taken_all t m now same ok facts held_now g k pages size may_now room ledger charged rise before free b blocks was front takes areas_free frame_states placed f at links lists
     joined run noted =
     let held = held_here t m now same held_now in
     let may = charge_here m now same g (2 ^ k) may_now in
+    let fits = number_in_room m.ledger.groups g facts.groups may.there in
     let order : k ≡ b.order = sym front.order_is in
     let so_many : pages ≡ 2 ^ b.order = size ∙ ap (λ (x : ℕ). 2 ^ x) order in
     let room_here : PathHasRoom m.ledger.groups (current_of m.ledger) g (2 ^ b.order) = subst (PathHasRoom m.ledger.groups (current_of m.ledger) g) so_many room in
@@ -353,7 +355,7 @@ pub was_away : (t : KnownTable) (m : KnownMachine) → IsConsistent t m → (bef
 was_away t m ok before free b was k front takes =
     let sized = ok.sizes.frame_states in
     let low = head_inside m.frame_states m.blocks ok.areas before free was k b front takes in
-    homeless (home_of m.links b.at) (frame_state_at m.frame_states b.at) (head_free m.frame_states m.blocks ok.areas before free was k b front takes)
+    homeless (room_of m.ledger.groups) (home_of m.links b.at) (frame_state_at m.frame_states b.at) (head_free m.frame_states m.blocks ok.areas before free was k b front takes)
     (ok.frame_states b.at (omega (arith, sized, low)))
 
 -- the grant may be made, if there is room
@@ -509,6 +511,7 @@ refused_step t m now same ok facts held_now g k pages over may_now low l unchang
       step = is_over t m ok facts held (lock_holder m) g may.there may.alive pages over low;
       only = refl;
       groups = shown.groups;
+      room = refl;
       killed = shown.killed;
       follows = follows_same (local_of t m) m.ledger (over_steps g pages over) refl;
       counts = refl;
@@ -520,4 +523,4 @@ pub refused_all : (t : KnownTable) (m now : KnownMachine) → m ≡ now → IsCo
     → AllGrouped t m now (zone_makes (Grant g pages) (Over over)) (record m { ledger = l; run = run })
 refused_all t m now same ok facts held g k pages over may low l unchanged run noted =
     grouped t m ok (held_here t m now same held) (zone_makes (Grant g pages) (Over over)) l m.killed
-    (refused_step t m now same ok facts held g k pages over may low l unchanged) (λ h. ap (λ (x : Ledger). pages_of x h) unchanged) ok.sizes.killed run noted now same
+    (refused_step t m now same ok facts held g k pages over may low l unchanged) (λ h. ap (λ (x : Ledger). pages_of x h) unchanged) refl run noted now same

@@ -44,7 +44,7 @@ module _ (t : KnownTable) (m : KnownMachine) (ok : IsConsistent t m) (f : ℕ) (
     machine = refl;
     touches = subst (λ (x : Lru × Lru). Touches m.links x.0 f touched links x.1)
         (λ i. (sym (its_lists t m ok f inside h home lru read) i, sym (get_or-set_same m.lists h.owner new no_lists bound) i)) touches;
-    others = others_stay m.links links m.lists h.owner lru new ok.lists ok.sizes.lists own changes others_stay_linked;
+    others = others_stay m.links links m.lists h.owner lru new ok.lists own changes others_stay_linked;
     unlisted = λ g none. unlisted_stay m.links links lru.owner g changes (owners g) none;
   }
 

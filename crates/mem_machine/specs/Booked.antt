@@ -1,14 +1,14 @@
 -- The pages booked to the stocks of each group, with the sums that count them, and the group of each stock.
 use Rattle.std.specs.Prelude.{◌≡◌, ℕ, ◌+◌, ◌<◌, ◌≤◌, Option, None, List, length}
 use Rattle.std.specs.List.{slice_index_or}
-use Rattle.group_tree.specs.Bounds.{most_groups}
 use Rattle.step_rules.specs.State.{Part}
 use Rattle.mem_machine.specs.Machines.{pages_booked}
 
--- for each group number there is a sum: how many pages are booked to the stocks of that group
-pub record AreBooked (cpus : ℕ) (parts : ℕ → Part) (sums : List ℕ) : Type 0 where
-  pub size : length sums ≡ most_groups
-  pub each : (group : ℕ) → group < most_groups → slice_index_or sums group 0 ≡ pages_booked cpus parts group
+-- for each of so many group numbers there is a sum: how many pages are booked to the stocks of that group; none are
+-- booked to the stocks of a group beyond
+pub record AreBooked (room cpus : ℕ) (parts : ℕ → Part) (sums : List ℕ) : Type 0 where
+  pub size : length sums ≡ room
+  pub each : (group : ℕ) → slice_index_or sums group 0 ≡ pages_booked cpus parts group
 
 -- The list has the group of each CPU's stock: that of CPU 1 comes first. It has None for a stock that was never filled,
 -- and beyond the last CPU.

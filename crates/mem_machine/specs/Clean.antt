@@ -1,6 +1,5 @@
 -- The clean pages on the lists of each group.
-use Rattle.std.specs.Prelude.{◌≡◌, ℕ, ◌+◌, ◌-◌, ◌^◌, ◌<◌, ◌==◌, Bool, true, false, Option, Some, None, List, length, slice_index_or, slice_set, if◌then◌else◌}
-use Rattle.group_tree.specs.{most_groups}
+use Rattle.std.specs.Prelude.{◌≡◌, ℕ, ◌+◌, ◌-◌, ◌^◌, ◌==◌, Bool, true, false, Option, Some, None, List, length, slice_index_or, slice_set, if◌then◌else◌}
 use Rattle.lru_lists.specs.declared.record.Link.{Link}
 use Rattle.lru_lists.specs.{link_at, owner_of}
 use Rattle.step_rules.specs.{sum_to}
@@ -32,10 +31,10 @@ clean_pages_in frame_states links group = sum_to (length frame_states)
 abbrev pub clean_pages : KnownMachine → (group : ℕ) → ℕ
 clean_pages machine group = clean_pages_in machine.frame_states machine.links group
 
--- the counts are those of the groups' clean pages, by number
-pub record AreCleanCounts (frame_states : List FrameState) (links : List Link) (counts : List ℕ) : Type 0 where
-  pub size : length counts ≡ most_groups
-  pub each : (group : ℕ) → group < most_groups → slice_index_or counts group 0 ≡ clean_pages_in frame_states links group
+-- the counts are those of the clean pages of so many groups, by number; a group beyond has none
+pub record AreCleanCounts (room : ℕ) (frame_states : List FrameState) (links : List Link) (counts : List ℕ) : Type 0 where
+  pub size : length counts ≡ room
+  pub each : (group : ℕ) → slice_index_or counts group 0 ≡ clean_pages_in frame_states links group
 
 -- the counts after a clean unit of this order joined its group's lists
 abbrev pub clean_joined : (group order : ℕ) → List ℕ → List ℕ

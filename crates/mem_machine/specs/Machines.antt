@@ -4,7 +4,7 @@ use Rattle.std.specs.List.{slice_index_or}
 use Rattle.zone_blocks.specs.declared.block.Block.{Block}
 use Rattle.zone_blocks.specs.Areas.{AreMaximalBlocks}
 use Rattle.group_charge.specs.{Ledger, pages_of, current_of, initial_ledger, with_new_group, KnownNotes, detail_noted, forgotten, no_notes, noted}
-use Rattle.group_tree.specs.{most_groups, IsLeastFreeNumber, IsLowestOver}
+use Rattle.group_tree.specs.{most_groups, room_of, IsLeastFreeNumber, IsLowestOver}
 use Rattle.lru_lists.specs.declared.record.Link.{Link}
 use Rattle.lru_lists.specs.declared.record.Home.{Home}
 use Rattle.lru_lists.specs.declared.record.Entry.{Entry}
@@ -132,11 +132,6 @@ abbrev pub UnlistedStay : List Link → List Link → Type 0
 UnlistedStay before after =
     (frame : ℕ) → home_of before frame ≡ None → link_at after frame ≡ link_at before frame
 
--- each group number has its two lists, and all of them agree with the links
-pub record AreGroupLists (links : List Link) (lists : List Lru) : Type 0 where
-  pub groups : length lists ≡ most_groups
-  pub stand : AllLinked links lists
-
 -- the group of this number is killed
 abbrev pub is_killed : List Bool → ℕ → Bool
 is_killed killed group = slice_index_or killed group false
@@ -186,19 +181,19 @@ pub record IsShownBy (table : KnownTable) (machine : KnownMachine) (state : Stat
 
 -- ---- what always holds
 
--- the list that the frame is on, if any, is of the group whose unit the frame heads
-abbrev pub FitsFrameState : Option Home → FrameState → Type 0
-FitsFrameState home frame_state =
-    IfSome home (λ list. (list.owner < most_groups) × (head_group_of frame_state ≡ Some list.owner))
+-- the list that the frame is on, if any, is of the group whose unit the frame heads, one of those that there is room for
+abbrev pub FitsFrameState : (room : ℕ) → Option Home → FrameState → Type 0
+FitsFrameState room home frame_state =
+    IfSome home (λ list. (list.owner < room) × (head_group_of frame_state ≡ Some list.owner))
 
--- the parts have the sizes of the table
+-- there are as many records and links as the table has frames, and as many lists and marks as there is room for groups
 pub record AreSized (table : KnownTable) (machine : KnownMachine) : Type 0 where
   pub frame_states : length machine.frame_states ≡ table.frames
   pub links : length machine.links ≡ table.frames
-  pub lists : length machine.lists ≡ most_groups
-  pub killed : length machine.killed ≡ most_groups
+  pub lists : length machine.lists ≡ room_of machine.ledger.groups
+  pub killed : length machine.killed ≡ room_of machine.ledger.groups
 
--- The machine is consistent. Its sizes are those of the table. The free areas are the maximal blocks of the free
+-- The machine is consistent. Its sizes are those of the table and of the tree. The free areas are the maximal blocks of the free
 -- frames. Each frame's record agrees with the lists. The charged frames make up units. All lists agree with the links.
 -- The units freed are the last puts, freezes and killed fresh frames together, or the greatest count if that is less.
 -- A reclaim begins with a pass of shares if and only if the boot chose that. All else is what the machine's past left.
@@ -206,7 +201,8 @@ pub record IsConsistent (table : KnownTable) (machine : KnownMachine) : Type 0 w
   pub sizes : AreSized table machine
   pub areas : AreMaximalBlocks (free_of machine.frame_states) machine.blocks
   pub frame_states : (frame : ℕ) → frame < table.frames
-      → FitsFrameState (home_of machine.links frame) (frame_state_at machine.frame_states frame)
+      → FitsFrameState (room_of machine.ledger.groups) (home_of machine.links frame)
+      (frame_state_at machine.frame_states frame)
   pub units : AreUnits machine.frame_states
   pub lists : AllLinked machine.links machine.lists
   pub balances : BalancesCounts machine.counts
@@ -258,6 +254,10 @@ OneByOne IsDone (frame ∷ others) before after = FirstThen (IsDone frame) (OneB
 abbrev pub IsCpuOf : KnownTable → ℕ → Type 0
 IsCpuOf table cpu = (1 ≤ cpu) × (cpu ≤ table.cpus)
 
+-- the room of a boot that asked for so many groups: 1 at least, and `most_groups` at most
+abbrev pub boot_room : ℕ → ℕ
+boot_room groups = min groups most_groups - 1 + 1
+
 -- the ledger of a new boot with room for so many groups: the root alone, with nothing charged and nothing set
 abbrev pub boot_ledger : ℕ → Ledger
 boot_ledger groups = initial_ledger (min groups most_groups - 1)
@@ -268,7 +268,7 @@ pub record IsFirst (table : KnownTable) (machine : KnownMachine) : Type 0 where
   pub frame_states : machine.frame_states ≡ replicate table.frames Free
   pub ledger : machine.ledger ≡ boot_ledger table.choices.groups
   pub nowhere : AreNowhere machine.links
-  pub killed : machine.killed ≡ replicate most_groups false
+  pub killed : machine.killed ≡ replicate (boot_room table.choices.groups) false
   pub counts : machine.counts ≡ no_counts
   pub notes : machine.notes ≡ no_notes
   pub is_proportional : machine.is_proportional ≡ table.choices.is_proportional

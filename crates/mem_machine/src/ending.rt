@@ -7,11 +7,11 @@ ghost use Rattle.mem_machine.specs.Places.{frames_in_groups, NoneLentTo};
 use crate::machine::Machine;
 use crate::proving::{prove_charges, prove_sizes};
 use cpu_part::{BootName, CpuLists, Tables};
-use group_tree::group::{GroupId, MAX_GROUPS};
+use group_tree::group::GroupId;
 
 impl<N: BootName> Machine<N> {
-    /// How many frames are charged to a group. The sum is taken over the groups' charges: a zone has at most 64 groups,
-    /// but up to 1,048,576 frames.
+    /// How many frames are charged to a group. The sum is taken over the groups' charges: a zone has room for at most
+    /// `MAX_GROUPS` groups, but for up to 1,048,576 frames.
     pub fn count_charged(&self, tables: &Tables<N>) -> u32
         ensures charged { result ≡ frames_in_groups self.now.frame_states }
         ensures at_most { result ≤ N.table.frames }
@@ -19,7 +19,7 @@ impl<N: BootName> Machine<N> {
         prove_sizes(tables);
         prove_charges(&self.charges);
         let mut charged = 0;
-        for number in 0..MAX_GROUPS as u32 {
+        for number in 0..self.room() {
             charged += self.frames_of(GroupId::of(number).unwrap());
         }
         charged as u32

@@ -58,6 +58,7 @@ impl<N: BootName> Machine<N> {
         ensures visit { StaysVisited N.table self.old self.new }
         ensures steps { Makes N.table self.old (kill_steps group) self.new }
     {
+        prove_charges(&self.charges);
         self.charges.note(EventKey::OomKill, group);
         self.killed[group.number() as usize] = true;
         make_step(tables, &mut self.past, &mut self.watch, || {

@@ -16,7 +16,7 @@ use boot_words::PastSeat;
 use cpu_part::{BootName, Tables};
 use group_charge::charges::Charges;
 use group_charge::notes::Notes;
-use group_tree::group::{GroupId, MAX_GROUPS};
+use group_tree::group::GroupId;
 use lru_lists::links::Links;
 use lru_lists::lru::Lru;
 use std::alloc::{AllocError, Global};
@@ -35,18 +35,19 @@ pub struct Machine<N: BootName> {
     pub(crate) charges: Charges,
     // A link for each frame, by its number. Only the heads of kept units are linked into their groups' lists.
     pub(crate) links: Links,
-    // The ends and lengths of the two lists of each group number, by the number.
+    // The ends and lengths of the two lists of each group number, by the number. This table and the next three have an
+    // entry for each group that the boot made room for.
     pub(crate) lists: Vec<Lru>,
     // How many clean pages are on the lists of each group, by its number. At most 2^32 frames may each head a unit of 1,024
     // pages, so no count overflows.
-    pub(crate) clean: [u64; MAX_GROUPS],
+    pub(crate) clean: Vec<u64>,
     // By group number: the pages booked to the group's stocks, 0 to 2^32 - 1. What is booked to one CPU's stock exists
     // only in proofs, as a part of what the past left.
-    pub(crate) sums: [u32; MAX_GROUPS],
-    // Only calls of the machine change the group of a stock, so no look is needed to find it.
-    pub(crate) owners: StockOwners,
+    pub(crate) sums: Vec<u32>,
     // Whether each group number is killed, by the number.
     pub(crate) killed: Vec<bool>,
+    // Only calls of the machine change the group of a stock, so no look is needed to find it.
+    pub(crate) owners: StockOwners,
     // How many units ended, were freed, or were missed since the boot.
     pub(crate) counts: Counts,
     // The notes since the last `forget_notes`: limits without room, what was tried there, which units were reclaimed,
@@ -99,10 +100,10 @@ impl<N: BootName> Machine<N> {
             charges: parts.charges,
             links: parts.links,
             lists: parts.lists,
-            clean: [0; MAX_GROUPS],
-            sums: [0; MAX_GROUPS],
-            owners: StockOwners::new(),
+            clean: parts.clean,
+            sums: parts.sums,
             killed: parts.killed,
+            owners: StockOwners::new(),
             counts: Counts {
                 last_puts: 0,
                 freezes: 0,
@@ -129,10 +130,10 @@ impl<N: BootName> Machine<N> {
             charges,
             links,
             lists,
-            clean: _,
-            sums: _,
-            owners,
+            clean,
+            sums,
             killed,
+            owners,
             counts: _,
             notes,
             is_proportional: _,
@@ -147,6 +148,8 @@ impl<N: BootName> Machine<N> {
             charges,
             links,
             lists,
+            clean,
+            sums,
             killed,
             notes,
         });

@@ -1,7 +1,7 @@
 //! Readers of the machine.
 
-ghost use Rattle.std.specs.Prelude.{◌≡◌, ◌<◌, ◌↔◌, IsTrue};
-ghost use Rattle.group_tree.specs.Groups.{has_group};
+ghost use Rattle.std.specs.Prelude.{◌≡◌, ◌<◌, ◌≤◌, ◌↔◌, IsTrue};
+ghost use Rattle.group_tree.specs.{most_groups, has_group, room_of};
 ghost use Rattle.group_charge.specs.Charges.{current_of};
 ghost use Rattle.zone_blocks.specs.Areas.{AreMaximalBlocks};
 ghost use Rattle.mem_machine.specs.Clean.{clean_pages};
@@ -63,11 +63,22 @@ impl<N: BootName> Machine<N> {
         self.links.home(frame.number()).is_some()
     }
 
+    /// How many groups there may be at once, the root included. Their numbers are below this.
+    pub fn room(&self) -> u32
+        ensures groups { result ≡ room_of self.now.ledger.groups }
+        ensures few { result ≤ most_groups }
+    {
+        self.charges.tree().room()
+    }
+
     /// Whether the group of this number is killed.
     pub fn is_killed(&self, group: GroupId) -> bool
         ensures { result ≡ is_killed self.now.killed group }
     {
-        self.killed[group.number() as usize]
+        match self.killed.get(group.number() as usize) {
+            Some(killed) => *killed,
+            None => false,
+        }
     }
 
     /// The memory that the group and its descendants use now, in pages (memory.current).
@@ -96,7 +107,10 @@ impl<N: BootName> Machine<N> {
     pub fn clean_pages(&self, group: GroupId) -> u64
         ensures { result ≡ clean_pages self.now group }
     {
-        self.clean[group.number() as usize]
+        match self.clean.get(group.number() as usize) {
+            Some(pages) => *pages,
+            None => 0,
+        }
     }
 
     /// Whether a reclaim begins with a pass of shares (`Choices::is_proportional`).

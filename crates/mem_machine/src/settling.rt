@@ -21,7 +21,7 @@ use crate::publishing::publish;
 use boot_words::PastSeat;
 use cpu_part::{BootName, CpuLists, Tables};
 use frame_word::Frame;
-use group_tree::group::{GroupId, MAX_GROUPS};
+use group_tree::group::GroupId;
 use step_rules::phase::ChargedUnit;
 use step_rules::step::{Action, Answer};
 use step_watch::Watch;
@@ -43,7 +43,7 @@ fn collect_fresh<N: BootName>(
     cpu: &mut CpuLists<N>,
     past: &mut PastSeat,
     watch: &mut Watch,
-    sums: &mut [u32; MAX_GROUPS],
+    sums: &mut Vec<u32>,
     group: GroupId,
 ) -> Frame
     requires held { IsHeld N.table past.old }
@@ -52,9 +52,9 @@ fn collect_fresh<N: BootName>(
     requires legal { (f : ℕ) (rest : List ℕ) → cpu.old.fresh ≡ f ∷ rest
         → AreLegal (local_by_pasts N.table past.old) (collect_steps cpu.old.number f) }
     requires fresh { cpu.old.fresh ≢ [] }
-    requires booked { 1 ≤ slice_index_or sums.old group 0 }
+    requires booked { 1 ≤ slice_index_or sums.old.items group 0 }
     ensures cpu { HandsOver result cpu.old cpu.new }
-    ensures sums { sums.new ≡ slice_set sums.old group (slice_index_or sums.old group 0 - 1) }
+    ensures sums { sums.new.items ≡ slice_set sums.old.items group (slice_index_or sums.old.items group 0 - 1) }
     ensures held { IsHeld N.table past.new }
     ensures notes { Records N.table (record { past = past.old; watch = watch.old })
         (collect_steps cpu.old.number result) (record { past = past.new; watch = watch.new }) }
@@ -180,7 +180,7 @@ impl<N: BootName> Machine<N> {
         let Some(group) = self.owners.group(cpu.number() as usize - 1) else {
             unreachable!()
         };
-        if self.killed[group.number() as usize] {
+        if self.is_killed(group) {
             Some(self.drop_one(tables, cpu, group))
         } else {
             Some(self.keep_one(tables, cpu, group))

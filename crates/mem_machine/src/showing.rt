@@ -18,7 +18,7 @@ impl<N: BootName> Machine<N> {
     pub fn entries(&self, group: GroupId, list: LruList) -> Walk<'_>
         ensures { result ≡ entries_in self.now group list }
     {
-        self.lists[group.number() as usize].entries(&self.links, list)
+        self.lists_of(group).entries(&self.links, list)
     }
 
     /// How many references other than the zone's a kept unit has, by one load of its word: the pins of all CPUs at the

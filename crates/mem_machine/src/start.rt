@@ -1,10 +1,10 @@
 //! The parts of the first machine.
 
-ghost use Rattle.std.specs.Prelude.{◌≡◌, true, false, replicate, length, IfOk};
+ghost use Rattle.std.specs.Prelude.{◌≡◌, ◌≤◌, true, false, replicate, length, IfOk};
 ghost use Rattle.zone_blocks.specs.Areas.{AreMaximalBlocks};
 ghost use Rattle.lru_lists.specs.Queue.{AreNowhere};
 ghost use Rattle.group_charge.specs.{no_notes};
-ghost use Rattle.mem_machine.specs.Machines.{boot_ledger};
+ghost use Rattle.mem_machine.specs.Machines.{boot_ledger, boot_room};
 ghost use Rattle.mem_machine.specs.Start.{AreEmpty};
 ghost use Rattle.mem_machine.specs.declared.frame_state.FrameState.TheVariants.{Free};
 ghost use Rattle.group_tree.specs.Bounds.{most_groups};
@@ -27,6 +27,8 @@ pub(crate) struct Parts {
     pub(crate) charges: Charges,
     pub(crate) links: Links,
     pub(crate) lists: Vec<Lru>,
+    pub(crate) clean: Vec<u64>,
+    pub(crate) sums: Vec<u32>,
     pub(crate) killed: Vec<bool>,
     pub(crate) notes: Notes,
 }
@@ -40,12 +42,16 @@ pub(crate) fn new_parts(alloc: Global, frames: u32, groups: u32) -> Result<Parts
     ensures frames { IfOk result (λ parts. length parts.links ≡ frames) }
     ensures nowhere { IfOk result (λ parts. AreNowhere parts.links) }
     ensures charges { IfOk result (λ parts. parts.charges ≡ boot_ledger groups) }
-    ensures lists { IfOk result (λ parts. AreEmpty parts.lists.items most_groups) }
-    ensures killed { IfOk result (λ parts. parts.killed.items ≡ replicate most_groups false) }
+    ensures lists { IfOk result (λ parts. AreEmpty parts.lists.items (boot_room groups)) }
+    ensures clean { IfOk result (λ parts. parts.clean.items ≡ replicate (boot_room groups) 0) }
+    ensures sums { IfOk result (λ parts. parts.sums.items ≡ replicate (boot_room groups) 0) }
+    ensures killed { IfOk result (λ parts. parts.killed.items ≡ replicate (boot_room groups) false) }
     ensures notes { IfOk result (λ parts. parts.notes ≡ no_notes) }
 {
     let notes = Notes::new(alloc)?;
-    let (charges, lists, killed) = group_parts(alloc, groups)?;
+    let below = min(groups, MAX_GROUPS as u32).saturating_sub(1);
+    let (lists, clean, sums, killed) = group_tables(alloc, below + 1)?;
+    let charges = Charges::new(alloc, below)?;
     let (zone, frame_states, links) = frame_parts(alloc, frames)?;
     Ok(Parts {
         zone,
@@ -53,6 +59,8 @@ pub(crate) fn new_parts(alloc: Global, frames: u32, groups: u32) -> Result<Parts
         charges,
         links,
         lists,
+        clean,
+        sums,
         killed,
         notes,
     })
@@ -72,17 +80,20 @@ fn frame_parts(alloc: Global, frames: u32) -> Result<(Buddy, Vec<FrameState>, Li
     Ok((zone, frame_states, links))
 }
 
-// The parts that have a place for each group number: charges, two empty lists each, and the marks of killed groups.
-// Only the root exists.
-fn group_parts(alloc: Global, groups: u32) -> Result<(Charges, Vec<Lru>, Vec<bool>), AllocError>
-    ensures charges { IfOk result (λ parts. parts.0 ≡ boot_ledger groups) }
-    ensures lists { IfOk result (λ parts. AreEmpty parts.1.items most_groups) }
-    ensures killed { IfOk result (λ parts. parts.2.items ≡ replicate most_groups false) }
+// The tables with an entry for each of `room` group numbers: two empty lists, how many clean pages are on them, the
+// pages booked to the group's stocks, and the mark of a killed group.
+fn group_tables(alloc: Global, room: u32) -> Result<(Vec<Lru>, Vec<u64>, Vec<u32>, Vec<bool>), AllocError>
+    requires { room ≤ most_groups }
+    ensures lists { IfOk result (λ tables. AreEmpty tables.0.items room) }
+    ensures clean { IfOk result (λ tables. tables.1.items ≡ replicate room 0) }
+    ensures sums { IfOk result (λ tables. tables.2.items ≡ replicate room 0) }
+    ensures killed { IfOk result (λ tables. tables.3.items ≡ replicate room false) }
 {
-    let killed = no_marks(alloc)?;
-    let lists = empty_lists(alloc)?;
-    let charges = Charges::new(alloc, min(groups, MAX_GROUPS as u32).saturating_sub(1))?;
-    Ok((charges, lists, killed))
+    let killed = no_marks(alloc, room)?;
+    let sums = no_sums(alloc, room)?;
+    let clean = no_counts(alloc, room)?;
+    let lists = empty_lists(alloc, room)?;
+    Ok((lists, clean, sums, killed))
 }
 
 // A record for each frame, all free.
@@ -92,19 +103,34 @@ fn free_frame_states(alloc: Global, frames: u32) -> Result<Vec<FrameState>, Allo
     vec![in alloc; FrameState::Free; frames as usize]
 }
 
-// A mark for each group number, all false.
-fn no_marks(alloc: Global) -> Result<Vec<bool>, AllocError>
-    ensures { IfOk result (λ marks. marks.items ≡ replicate most_groups false) }
+// So many marks, all false.
+fn no_marks(alloc: Global, room: u32) -> Result<Vec<bool>, AllocError>
+    ensures { IfOk result (λ marks. marks.items ≡ replicate room false) }
 {
-    vec![in alloc; false; MAX_GROUPS]
+    vec![in alloc; false; room as usize]
 }
 
-// Two empty lists for each group number.
-fn empty_lists(alloc: Global) -> Result<Vec<Lru>, AllocError>
-    ensures { IfOk result (λ lists. AreEmpty lists.items most_groups) }
+// So many sums, all 0.
+fn no_sums(alloc: Global, room: u32) -> Result<Vec<u32>, AllocError>
+    ensures { IfOk result (λ sums. sums.items ≡ replicate room 0) }
 {
-    let mut lists = Vec::with_capacity(alloc, MAX_GROUPS)?;
-    for owner in 0..MAX_GROUPS as u8 {
+    vec![in alloc; 0; room as usize]
+}
+
+// So many counts, all 0.
+fn no_counts(alloc: Global, room: u32) -> Result<Vec<u64>, AllocError>
+    ensures { IfOk result (λ counts. counts.items ≡ replicate room 0) }
+{
+    vec![in alloc; 0; room as usize]
+}
+
+// Two empty lists for each of `room` group numbers.
+fn empty_lists(alloc: Global, room: u32) -> Result<Vec<Lru>, AllocError>
+    requires { room ≤ most_groups }
+    ensures { IfOk result (λ lists. AreEmpty lists.items room) }
+{
+    let mut lists = Vec::with_capacity(alloc, room as usize)?;
+    for owner in 0..room as u16 {
         lists.push_reserved(Lru::new(owner));
     }
     Ok(lists)

@@ -5,7 +5,7 @@ use Rattle.std.specs.List.{range_with_len}
 use Rattle.std.proofs.lemmas.Bool.{cond-true, cond-false}
 use Rattle.std.proofs.lemmas.List.{append-nil, map-id}
 use Rattle.std.proofs.lemmas.List.FromFn.{filter_of_map_range_with_len_more}
-use Rattle.group_tree.specs.Bounds.{most_groups}
+use Rattle.group_tree.specs.Groups.{room_of}
 use Rattle.mem_machine.specs.Machines.{KnownMachine}
 use Rattle.mem_reclaim.specs.{alive_in_subtree, may_be_killed}
 
@@ -53,5 +53,5 @@ alive_skipped m root k count so is =
     let few = so.few in
     record { all = so.all ∙ sym (ap length (alive_same m root k is)); few = omega (arith, few) }
 
-pub alive_all : (m : KnownMachine) (root k count : ℕ) → AliveTo m root k count → k ≡ most_groups → count ≡ length (alive_in_subtree m root)
+pub alive_all : (m : KnownMachine) (root k count : ℕ) → AliveTo m root k count → k ≡ room_of m.ledger.groups → count ≡ length (alive_in_subtree m root)
 alive_all m root k count so all = so.all ∙ ap (λ (x : ℕ). length (alive_to m root x)) all

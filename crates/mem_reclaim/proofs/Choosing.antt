@@ -3,10 +3,9 @@
 use Rattle.std.proofs.Common.{◌≡◌, ℕ, suc, ◌+◌, ◌<◌, ◌≤◌, Bool, true, false, Option, Some, None, IsTrue, refl, ap, ◌∙◌, subst, arith}
 use Rattle.std.proofs.lemmas.Bool.{and_parts}
 use Rattle.std.specs.Prelude.{not}
-use Rattle.group_tree.specs.Bounds.{most_groups}
-use Rattle.group_tree.specs.Groups.{AreGroups, has_group, in_subtree}
+use Rattle.group_tree.specs.Groups.{AreGroups, has_group, in_subtree, room_of}
 use Rattle.group_tree.proofs.CallerLemmas.{in_subtree-below}
-use Rattle.group_tree.proofs.CallerLemmas.{number_below}
+use Rattle.group_tree.proofs.CallerLemmas.{number_in_room}
 use Rattle.step_rules.specs.State.{one_if, sum_to}
 use Rattle.mem_machine.specs.Machines.{KnownMachine}
 use Rattle.mem_reclaim.specs.Victim.{IsMost, is_candidate, is_excluded, may_be_chosen, may_be_killed, own_frames}
@@ -29,14 +28,14 @@ BestBelow m test k (Some v) frames = BestSoFar m test k v frames
 pub chosen_there : (m : KnownMachine) (g k : ℕ) → may_be_killed m g k ≡ true → IsTrue (has_group m.ledger.groups k)
 chosen_there m g k chosen = in_subtree-below m.ledger.groups g k (and_parts (in_subtree m.ledger.groups g k) _ chosen).0
 
--- who may be killed has a group's number
-chosen_below : (m : KnownMachine) → AreGroups m.ledger.groups → (g : ℕ) (excluded : Option ℕ) (k : ℕ) → may_be_chosen m g excluded k ≡ true → k < most_groups
+-- there is room for who may be killed
+chosen_below : (m : KnownMachine) → AreGroups m.ledger.groups → (g : ℕ) (excluded : Option ℕ) (k : ℕ) → may_be_chosen m g excluded k ≡ true → k < room_of m.ledger.groups
 chosen_below m facts g excluded k chosen =
-    number_below m.ledger.groups k facts (chosen_there m g k (and_parts (not (is_excluded excluded k)) (may_be_killed m g k) chosen).1)
+    number_in_room m.ledger.groups k facts (chosen_there m g k (and_parts (not (is_excluded excluded k)) (may_be_killed m g k) chosen).1)
 
 -- all numbers were looked at
 pub best_end : (m : KnownMachine) → AreGroups m.ledger.groups → (g : ℕ) (excluded : Option ℕ) (k : ℕ) (best : Option ℕ) (frames : ℕ)
-    → BestBelow m (may_be_chosen m g excluded) k best frames → most_groups ≤ k → IsMost m (may_be_chosen m g excluded) best
+    → BestBelow m (may_be_chosen m g excluded) k best frames → room_of m.ledger.groups ≤ k → IsMost m (may_be_chosen m g excluded) best
 best_end m facts g excluded k None frames b all = λ j chosen. let low = chosen_below m facts g excluded j chosen in b.1 j (omega (arith, low, all)) chosen
 best_end m facts g excluded k (Some v) frames b all = record {
   chosen = b.chosen;

@@ -5,10 +5,9 @@ use Rattle.std.specs.Prelude.{not}
 use Rattle.std.specs.List.{range_with_len}
 use Rattle.std.proofs.lemmas.Bool.{and_from, and_parts, cases_Bool, cases_eq, cond-false, cond-true, true≢false}
 use Rattle.std.proofs.lemmas.List.Elements.{All-contains, Contains-append_left, Contains-push, filter_passes}
-use Rattle.group_tree.specs.Bounds.{most_groups}
-use Rattle.group_tree.specs.Groups.{in_subtree, is_oom_group}
+use Rattle.group_tree.specs.Groups.{in_subtree, is_oom_group, room_of}
 use Rattle.group_tree.proofs.CallerLemmas.{either_above, in_subtree-below, in_subtree-trans}
-use Rattle.group_tree.proofs.CallerLemmas.{number_below}
+use Rattle.group_tree.proofs.CallerLemmas.{number_in_room}
 use Rattle.mem_machine.specs.Machines.{KnownMachine, is_killed}
 use Rattle.mem_reclaim.specs.declared.sets.Killed.{Killed}
 use Rattle.mem_reclaim.specs.{FlaggedGroupsDieWhole, IsChosen, HasAllOrNone, OnlyTheLivingDie, VictimsDie, HasNoFlagged, IsKilledRoot}
@@ -34,15 +33,15 @@ alive_in m root (suc k) j lt is =
     ])
 
 module _ (m : KnownMachine) (limited : ℕ) (killed : Killed) (is : IsChosen m limited killed) where
-  low : (root j : ℕ) → may_be_killed m root j ≡ true → j < most_groups
-  low root j may = number_below m.ledger.groups j is.groups (in_subtree-below m.ledger.groups root j (and_parts (in_subtree m.ledger.groups root j) _ may).0)
+  low : (root j : ℕ) → may_be_killed m root j ≡ true → j < room_of m.ledger.groups
+  low root j may = number_in_room m.ledger.groups j is.groups (in_subtree-below m.ledger.groups root j (and_parts (in_subtree m.ledger.groups root j) _ may).0)
 
   in_set : (root j : ℕ) → may_be_killed m root j ≡ true → Contains (alive_in_subtree m root) j
-  in_set root j may = alive_in m root most_groups j (low root j may) may
+  in_set root j may = alive_in m root (room_of m.ledger.groups) j (low root j may) may
 
   of_set : (root j : ℕ) → Contains (alive_in_subtree m root) j → may_be_killed m root j ≡ true
   of_set root j there =
-      All-contains (λ (x : ℕ). may_be_killed m root x ≡ true) (alive_in_subtree m root) j (filter_passes (may_be_killed m root) (range_with_len 0 most_groups)) there
+      All-contains (λ (x : ℕ). may_be_killed m root x ≡ true) (alive_in_subtree m root) j (filter_passes (may_be_killed m root) (range_with_len 0 (room_of m.ledger.groups))) there
 
   -- whoever may be killed for the lower of two groups may be killed for the higher one
   may_above : (g h j : ℕ) → in_subtree m.ledger.groups g h ≡ true → may_be_killed m h j ≡ true → may_be_killed m g j ≡ true

@@ -3,13 +3,13 @@ use Rattle.std.proofs.Common.{◌≡◌, ℕ, zero, suc, ◌+◌, ◌-◌, ◌<�
 use Rattle.std.specs.Prelude.{filter, min, nat_lt, slice_index, slice_set}
 use Rattle.std.specs.List.{count_by, range_with_len}
 use Rattle.std.proofs.lemmas.Bool.{cases_eq, cases_lt, cond-false, cond-true, le-ltb, ne_eqb}
-use Rattle.std.proofs.lemmas.List.{append-nil, get_or_past, get_or-set_other, get_or-set_same, length-replicate, length-set}
+use Rattle.std.proofs.lemmas.List.{append-nil, get_or-set_other, get_or-set_same, length-replicate, length-set}
 use Rattle.std.proofs.lemmas.List.Sums.{sum_by-append}
-use Rattle.group_tree.specs.{AreGroups, in_subtree, most_groups}
+use Rattle.group_tree.specs.{AreGroups, in_subtree, most_groups, room_of}
 use Rattle.group_tree.proofs.CallerLemmas.{in_subtree-below}
 use Rattle.group_charge.specs.Charges.{Ledger, current_of}
 use Rattle.group_charge.specs.declared.note.Note.TheVariants.{Spared}
-use Rattle.group_tree.proofs.CallerLemmas.{number_below}
+use Rattle.group_tree.proofs.CallerLemmas.{number_in_room}
 use Rattle.group_protection.specs.Protections.{effective, low_key, min_key}
 use Rattle.group_protection.specs.Shares.{Sharing, reclaim_share}
 use Rattle.boot_words.specs.Tables.{KnownTable}
@@ -20,6 +20,7 @@ use Rattle.mem_reclaim.specs.Moves.{FreesBySteps}
 use Rattle.mem_reclaim.specs.Passes.{MakesPasses, TakesTurnOf, notes_spared, spared_by, subtree_of, turn_want, with_detail_if}
 use Rattle.mem_reclaim.specs.Shares.{MakesAllPasses, Reclaims, ReclaimsShares, TakesItsShare, may_give, share_in_reclaim, shares_by}
 use Rattle.mem_reclaim.specs.Wanted.{FreesNothing, Progress, Reclaiming, WhileWanted, progress}
+use Rattle.mem_machine.proofs.First.{repeated}
 use Rattle.mem_reclaim.proofs.FewMore.{turns_free_few_more}
 use Rattle.mem_reclaim.proofs.Moving.{moves_both}
 
@@ -45,13 +46,14 @@ may_give_is m l target g result clean used spared least low rest same inside cle
     ∙ (λ i. min (clean_pages m g) (current_of m.ledger g - spared_by First (effective min_key (same i) target g) (effective low_key (same i) target g)))
     ∙ sym (cond-true (in_subtree m.ledger.groups target g) _ 0 inside)
 
--- it is known what each group of a lesser number may give
+-- it is known what each group of a lesser number may give, and of no other yet
 pub record GivesSoFar (m : KnownMachine) (target k : ℕ) (available : List ℕ) : Type 0 where
   pub size : length available ≡ most_groups
   pub known : (i : ℕ) → i < k → get_or available i 0 ≡ may_give m target i
+  pub rest : (i : ℕ) → k ≤ i → get_or available i 0 ≡ 0
 
 pub gives_none : (m : KnownMachine) (target : ℕ) → GivesSoFar m target 0 (replicate most_groups 0)
-gives_none m target = record { size = length-replicate {A = ℕ} most_groups 0; known = λ i low. absurd (omega (arith, low)) }
+gives_none m target = record { size = length-replicate {A = ℕ} most_groups 0; known = λ i low. absurd (omega (arith, low)); rest = λ i past. repeated most_groups i 0 }
 
 pub gives_more : (m : KnownMachine) (target k x : ℕ) (available : List ℕ) → GivesSoFar m target k available → k < most_groups
     → x ≡ may_give m target k → GivesSoFar m target (k + 1) (slice_set available k x)
@@ -63,30 +65,31 @@ gives_more m target k x available so fits is = record {
         (get_or-set_same available k x 0 (let s = so.size in omega (arith, s, fits)) ∙ is)
     | inr ne ↦ get_or-set_other available k i x 0 ne ∙ so.known i (omega (arith, low, ne))
   ];
+  rest = λ i past. get_or-set_other available k i x 0 (λ e. absurd (omega (arith, past, e))) ∙ so.rest i (omega (arith, past));
 }
 
-pub gives_all : (m : KnownMachine) (target k : ℕ) (available : List ℕ) → AreGroups m.ledger.groups → most_groups ≤ k → GivesSoFar m target k available
+pub gives_all : (m : KnownMachine) (target k : ℕ) (available : List ℕ) → AreGroups m.ledger.groups → room_of m.ledger.groups ≤ k → GivesSoFar m target k available
     → slice_index available ≡ may_give m target
 gives_all m target k available facts past so = λ i j. each j i
   where
     each : (j : ℕ) → slice_index available j ≡ may_give m target j
-    each j = elim (cases_lt j most_groups) [
-      | inl low ↦ so.known j (omega (arith, low, past))
+    each j = elim (cases_lt j k) [
+      | inl low ↦ so.known j low
       | inr beyond ↦
-          get_or_past available j 0 (let s = so.size in omega (arith, s, beyond))
-          ∙ sym (may_give_none m target j (λ inside. let low = number_below m.ledger.groups j facts (in_subtree-below m.ledger.groups target j inside) in absurd (omega (arith, low, beyond))))
+          so.rest j beyond
+          ∙ sym (may_give_none m target j (λ inside. let low = number_in_room m.ledger.groups j facts (in_subtree-below m.ledger.groups target j inside) in absurd (omega (arith, low, beyond, past))))
     ]
 
 -- ---- the pass
 
 -- the shares by these numbers are those of the machine
-pub as_shares : (t : KnownTable) (m n : KnownMachine) (target want freed : ℕ) (sharing : Sharing) → slice_index sharing.available ≡ may_give m target → sharing.want ≡ want
+pub as_shares : (t : KnownTable) (m n : KnownMachine) (target want freed : ℕ) (sharing : Sharing) → sharing.room ≡ room_of m.ledger.groups → slice_index sharing.available ≡ may_give m target → sharing.want ≡ want
     → FreesBySteps t freed m n (WhileWanted (TakesItsShare (Some (shares_by sharing)) First target) (subtree_of m.ledger.groups target) want)
     → FreesBySteps t freed m n (ReclaimsShares target want)
-as_shares t m n target want freed sharing available wanted leads = record {
+as_shares t m n target want freed sharing room available wanted leads = record {
   steps = leads.steps;
-  does = subst (λ (v : (ℕ → ℕ) × ℕ). WhileWanted (TakesItsShare (Some (λ g. reclaim_share most_groups v.0 v.1 g)) First target) (subtree_of m.ledger.groups target) want
-      (progress freed m leads.steps n)) (λ i. (available i, wanted i)) leads.does;
+  does = subst (λ (v : ℕ × (ℕ → ℕ) × ℕ). WhileWanted (TakesItsShare (Some (λ g. reclaim_share v.0 v.1 v.2 g)) First target) (subtree_of m.ledger.groups target) want
+      (progress freed m leads.steps n)) (λ i. (room i, available i, wanted i)) leads.does;
   moves = leads.moves;
 }
 
@@ -227,4 +230,4 @@ count_once p g k (suc n) is from before = elim (cases_eq k g) [
 pub turns_leave_out_no_group : TurnsLeaveOutNoGroup
 unfolding subtree_of
 turns_leave_out_no_group groups target g facts inside =
-    count_once (in_subtree groups target) g 0 most_groups inside (omega arith) (number_below groups g facts (in_subtree-below groups target g inside))
+    count_once (in_subtree groups target) g 0 (room_of groups) inside (omega arith) (number_in_room groups g facts (in_subtree-below groups target g inside))

@@ -7,7 +7,7 @@ use Rattle.std.proofs.lemmas.Bool.{and_parts, or_parts, true≢false}
 use Rattle.std.proofs.lemmas.List.{append_assoc, append-nil, get_or-set_other}
 use Rattle.std.proofs.lemmas.List.Elements.{All-append, All-cons, All-nil}
 use Rattle.std.proofs.lemmas.List.Sums.{fold-append}
-use Rattle.group_tree.specs.Bounds.{most_groups}
+use Rattle.group_tree.specs.Groups.{room_of}
 use Rattle.group_tree.specs.Groups.{in_subtree, is_oom_group}
 use Rattle.group_charge.specs.Charges.{current_of, with_group_kill_noted}
 use Rattle.step_rules.specs.declared.step.Action.{Action}
@@ -258,7 +258,7 @@ below_more t limited root m k now s may n one =
           ∙ s.alive j (omega (arith, le));
     }
 
-pub below_all : (t : KnownTable) (limited root : ℕ) (m : KnownMachine) (k : ℕ) (now : KnownMachine) → KilledSoFar t limited root m k now → k ≡ most_groups
+pub below_all : (t : KnownTable) (limited root : ℕ) (m : KnownMachine) (k : ℕ) (now : KnownMachine) → KilledSoFar t limited root m k now → k ≡ room_of m.ledger.groups
     → KilledSo t (alive_in_subtree m root) (KillsGroups t limited (alive_in_subtree m root)) m now
 below_all t limited root m k now s all = subst (λ (x : ℕ). KilledSo t (alive_to m root x) (KillsGroups t limited (alive_to m root x)) m now) all s.so
 

@@ -5,7 +5,6 @@ use Rattle.std.specs.Prelude.{slice_set}
 use Rattle.std.proofs.lemmas.Bool.{cases_eq, false≢true}
 use Rattle.std.proofs.lemmas.Option.{none-some}
 use Rattle.std.proofs.lemmas.List.{append_assoc, append-nil}
-use Rattle.group_tree.specs.Bounds.{most_groups}
 use Rattle.lru_lists.specs.declared.record.Link.{Link}
 use Rattle.lru_lists.specs.declared.record.Home.{Home}
 use Rattle.lru_lists.specs.declared.record.Entry.{Entry}
@@ -218,11 +217,11 @@ first_is (e ∷ es) u is = (es, ap (λ (x : Entry). x ∷ es) (same e u (sym is)
     same : (a b : Entry) → Some a ≡ Some b → a ≡ b
     same a b e = cc
 
-pub oldest_is : (t : KnownTable) (g : ℕ) → g < most_groups → (list : LruList) (now : KnownMachine) → IsConsistent t now → (u : Entry)
+pub oldest_is : (t : KnownTable) (g : ℕ) (list : LruList) (now : KnownMachine) → IsConsistent t now → (u : Entry)
     → (oldest : Option Entry) → oldest ≡ first_entry (entries_in now g list) → oldest ≡ Some u → Oldest t g list now u
-oldest_is t g fits list now ok u oldest first some =
+oldest_is t g list now ok u oldest first some =
     let e = first_is (entries_in now g list) u (sym some ∙ first) in
-    let listed = listed_is t now ok g fits list in
+    let listed = listed_is t now ok g list in
     let home = listed.homes u.number (ap (has_unit u.number) e.1 ∙ has_mid [] e.0 u u.number refl) in
     record {
       rest = e.0;
@@ -389,23 +388,23 @@ pub record AllKilled (t : KnownTable) (v : ℕ) (m n : KnownMachine) : Type 0 wh
   pub stocks : OnlyDrains t m n
 
 -- no unit is on an empty list
-none_listed : (t : KnownTable) (m : KnownMachine) → IsConsistent t m → (v : ℕ) → v < most_groups → (list : LruList) → entries_in m v list ≡ []
+none_listed : (t : KnownTable) (m : KnownMachine) → IsConsistent t m → (v : ℕ) (list : LruList) → entries_in m v list ≡ []
     → (f : ℕ) → home_of m.links f ≡ Some (record { owner = v; list = list }) → ⊥
-none_listed t m ok v fits list empty f home =
-    false≢true (sym (ap (has_unit f) empty) ∙ (listed_is t m ok v fits list).at_home f home)
+none_listed t m ok v list empty f home =
+    false≢true (sym (ap (has_unit f) empty) ∙ (listed_is t m ok v list).at_home f home)
 
-keeps_none_of : (t : KnownTable) (b n : KnownMachine) → IsConsistent t b → IsConsistent t n → (v : ℕ) → v < most_groups
+keeps_none_of : (t : KnownTable) (b n : KnownMachine) → IsConsistent t b → IsConsistent t n → (v : ℕ)
     → entries_in b v Inactive ≡ [] → entries_in n v Active ≡ [] → OnlyLeave b n → (f : ℕ) (list : LruList)
     → home_of n.links f ≡ Some (record { owner = v; list = list }) → ⊥
-keeps_none_of t b n ok_b ok_n v fits first last leaves f Inactive home = none_listed t b ok_b v fits Inactive first f (leaves f _ home)
-keeps_none_of t b n ok_b ok_n v fits first last leaves f Active home = none_listed t n ok_n v fits Active last f home
+keeps_none_of t b n ok_b ok_n v first last leaves f Inactive home = none_listed t b ok_b v Inactive first f (leaves f _ home)
+keeps_none_of t b n ok_b ok_n v first last leaves f Active home = none_listed t n ok_n v Active last f home
 
-pub all_killed : (t : KnownTable) (v : ℕ) → v < most_groups → (m a d b n : KnownMachine) → a ≡ with_run (with_killed m v) a.run
+pub all_killed : (t : KnownTable) (v : ℕ) (m a d b n : KnownMachine) → a ≡ with_run (with_killed m v) a.run
     → ((g : ℕ) → current_of a.ledger g ≡ current_of m.ledger g) → Makes t m (kill_steps v) a → StaysVisited t m a → IsHeld t m.run.past
     → (pages : ℕ) → DrainsGroup t v pages a d → AreOwnDrained t v d → StaysVisited t a d
     → ReleasesUnitsBySteps t (entries_in d v Inactive) d b → entries_in b v Inactive ≡ [] → OnlyReleases t d b → KeepsStocks t d b → IsConsistent t b
     → ReleasesUnitsBySteps t (entries_in b v Active) b n → entries_in n v Active ≡ [] → OnlyReleases t b n → KeepsStocks t b n → IsConsistent t n → AllKilled t v m n
-all_killed t v fits m a d b n is usage killed visit_killed held pages drains drained visit_drained first first_empty first_keeps first_stocks ok_b last last_empty last_keeps last_stocks ok_n =
+all_killed t v m a d b n is usage killed visit_killed held pages drains drained visit_drained first first_empty first_keeps first_stocks ok_b last last_empty last_keeps last_stocks ok_n =
     let unit = drains_leave t (of_group v) t.cpus a d drains.drains drains.all in
     let stock : (p : ℕ) → part_at t n p ≡ part_at t d p = λ p. last_stocks.stocks p ∙ first_stocks.stocks p in
     let groups : n.ledger.groups ≡ d.ledger.groups = last_keeps.groups ∙ first_keeps.groups in
@@ -451,7 +450,7 @@ all_killed t v fits m a d b n is usage killed visit_killed held pages drains dra
       drained = λ q some few of.
           subst HasDrained (sym (stock q)) (drained q some few ((λ i. of_group v (sym groups i) (sym (ap (λ (x : Part). x.stock.group) (stock q)) i)) ∙ of));
       none_kept = λ f h home owner.
-          keeps_none_of t b n ok_b ok_n v fits first_empty last_empty last_keeps.leaves f h.list
+          keeps_none_of t b n ok_b ok_n v first_empty last_empty last_keeps.leaves f h.list
           (home ∙ (λ i. Some (record { owner = owner i; list = h.list })));
       keeps = only_lets_both t m a n at_first (only_lets_both t a d n at_drain (only_lets_both t d b n first_keeps last_keeps));
       stocks = record {

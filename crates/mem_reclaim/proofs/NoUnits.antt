@@ -3,7 +3,6 @@ use Rattle.std.proofs.Common.{◌≡◌, ◌≢◌, ℕ, ◌-◌, ◌<◌, ◌==
 use Rattle.std.proofs.Common.{refl, sym, ap, ◌∙◌, subst, inl, inr, arith, nat_lt, suc, cond}
 use Rattle.std.proofs.lemmas.Bool.{and_parts, cases_eq, cond-false, eqb-true, false≢true, le-ltb, ne_eqb}
 use Rattle.std.proofs.lemmas.List.{append-nil}
-use Rattle.group_tree.specs.Bounds.{most_groups}
 use Rattle.group_tree.specs.Groups.{AreGroups, in_subtree}
 use Rattle.group_charge.specs.Charges.{current_of}
 use Rattle.group_charge.specs.declared.note.Note.TheVariants as note
@@ -57,13 +56,13 @@ and_false : (b : Bool) → (b && false) ≡ false
 and_false true = refl
 and_false false = refl
 
-module _ (t : KnownTable) (g : ℕ) (m : KnownMachine) (ok : IsConsistent t m) (fits : g < most_groups) (none : keeps_no_unit m g ≡ true) where
+module _ (t : KnownTable) (g : ℕ) (m : KnownMachine) (ok : IsConsistent t m) (none : keeps_no_unit m g ≡ true) where
   empty : (list : LruList) → entries_in m g list ≡ []
   empty Inactive = empty_of (inactive_in m g) (eqb-true (length (inactive_in m g)) 0 (and_parts (length (inactive_in m g) == 0) _ none).0)
   empty Active = empty_of (active_in m g) (eqb-true (length (active_in m g)) 0 (and_parts (length (inactive_in m g) == 0) _ none).1)
 
   away : (f : ℕ) (list : LruList) → home_of m.links f ≢ Some (record { owner = g; list = list })
-  away f list home = false≢true (ap (has_unit f) (sym (empty list)) ∙ (listed_is t m ok g fits list).at_home f home)
+  away f list home = false≢true (ap (has_unit f) (sym (empty list)) ∙ (listed_is t m ok g list).at_home f home)
 
   none_clean : clean_pages m g ≡ 0
   none_clean = sum_none (length m.frame_states) _ (λ f below. gives_none g (pages_headed (frame_state_at m.frame_states f)) (link_at m.links f) (away f))

@@ -8,14 +8,13 @@ use Rattle.std.proofs.lemmas.Option.{none-some}
 use Rattle.boot_words.specs.Pasts.{IsHeld}
 use Rattle.group_tree.specs.declared.event.EventKey.TheVariants as event
 use Rattle.group_tree.specs.declared.group.Group.{Group}
-use Rattle.group_tree.specs.Bounds.{most_groups}
-use Rattle.group_tree.specs.Groups.{AreGroups, in_subtree}
+use Rattle.group_tree.specs.Groups.{AreGroups, in_subtree, room_of}
 use Rattle.group_tree.proofs.CallerLemmas.{in_subtree-below}
 use Rattle.group_charge.specs.declared.settings.ReclaimSettings.{ReclaimSettings}
 use Rattle.group_charge.specs.Charges.{Ledger, are_protecting, current_of, with_noted}
 use Rattle.group_charge.specs.declared.note.Note.{Note}
 use Rattle.group_charge.specs.declared.note.Note.TheVariants as note
-use Rattle.group_tree.proofs.CallerLemmas.{number_below}
+use Rattle.group_tree.proofs.CallerLemmas.{number_in_room}
 use Rattle.group_charge.proofs.UsageLemmas.{usage-noted}
 use Rattle.group_protection.specs.Protections.{effective, low_key, min_key}
 use Rattle.group_protection.proofs.Effective.{nothing_set}
@@ -337,12 +336,12 @@ shares_first f (Some x) first given some = given (λ none. none-some x (sym none
 
 -- the groups of the subtree from this number on
 abbrev pub groups_from : List Group → (g k : ℕ) → List ℕ
-groups_from groups g k = filter (in_subtree groups g) (range_with_len k (most_groups - k))
+groups_from groups g k = filter (in_subtree groups g) (range_with_len k (room_of groups - k))
 
-next_group : (groups : List Group) (g k : ℕ) → k < most_groups
+next_group : (groups : List Group) (g k : ℕ) → k < room_of groups
     → groups_from groups g k ≡ cond (in_subtree groups g k) (k ∷ groups_from groups g (k + 1)) (groups_from groups g (k + 1))
 next_group groups g k low =
-    let e : most_groups - k ≡ suc (most_groups - (k + 1)) = omega (arith, low) in
+    let e : room_of groups - k ≡ suc (room_of groups - (k + 1)) = omega (arith, low) in
     ap (λ n. filter (in_subtree groups g) (range_with_len k n)) e
 
 -- the groups of lesser numbers had their turn
@@ -372,7 +371,7 @@ module _ (t : KnownTable) (shares : Option (ℕ → ℕ)) (pass : Pass) (g want 
   as_first : (inside : Bool) (turn : ℕ) → turn ≡ k → in_subtree now.ledger.groups g turn ≡ inside → in_subtree m.ledger.groups g k ≡ inside
   as_first inside turn at is = (λ i. in_subtree (sym s.keeps.groups i) g (sym at i)) ∙ is
 
-  pub pass_skips : (turn : ℕ) → turn ≡ k → k < most_groups → in_subtree now.ledger.groups g turn ≡ false → PassSoFar t shares pass g want m (k + 1) freed now
+  pub pass_skips : (turn : ℕ) → turn ≡ k → k < room_of m.ledger.groups → in_subtree now.ledger.groups g turn ≡ false → PassSoFar t shares pass g want m (k + 1) freed now
   pass_skips turn at low away =
       let out = as_first false turn at away in
       record {
@@ -388,7 +387,7 @@ module _ (t : KnownTable) (shares : Option (ℕ → ℕ)) (pass : Pass) (g want 
         ];
       }
 
-  pub pass_more : (shares ≢ None → is_first pass ≡ true) → freed < want → (turn : ℕ) → turn ≡ k → k < most_groups → in_subtree now.ledger.groups g turn ≡ true
+  pub pass_more : (shares ≢ None → is_first pass ≡ true) → freed < want → (turn : ℕ) → turn ≡ k → k < room_of m.ledger.groups → in_subtree now.ledger.groups g turn ≡ true
       → (part some : ℕ) (then : KnownMachine) → part ≡ part_of shares turn (want - freed) → FreesBySteps t some now then (TakesTurn pass g turn part)
       → Keeps t now then → UsageFalls turn some now then → some < part + 1024 → (is_first pass ≡ false → OnlyLeave now then)
       → (is_last pass now.ledger.settings ≡ true → some < part → MissedOrKept g turn now then) → PassSoFar t shares pass g want m (k + 1) (freed + some) then
@@ -418,18 +417,18 @@ module _ (t : KnownTable) (shares : Option (ℕ → ℕ)) (pass : Pass) (g want 
   pub pass_enough : want ≤ freed → FreesBySteps t freed m now (WhileWanted (TakesItsShare shares pass g) (subtree_of m.ledger.groups g) want)
   pass_enough enough = so_far_enough t (TakesItsShare shares pass g) (subtree_of m.ledger.groups g) want m (groups_from m.ledger.groups g k) freed now s.so_far enough
 
-  pub pass_done : most_groups ≤ k → FreesBySteps t freed m now (WhileWanted (TakesItsShare shares pass g) (subtree_of m.ledger.groups g) want)
+  pub pass_done : room_of m.ledger.groups ≤ k → FreesBySteps t freed m now (WhileWanted (TakesItsShare shares pass g) (subtree_of m.ledger.groups g) want)
   pass_done past =
-      let none : most_groups - k ≡ 0 = omega (arith, past) in
+      let none : room_of m.ledger.groups - k ≡ 0 = omega (arith, past) in
       so_far_done t (TakesItsShare shares pass g) (subtree_of m.ledger.groups g) want m freed now
       (subst (λ (l : List ℕ). SoFar t (TakesItsShare shares pass g) (subtree_of m.ledger.groups g) want m l freed now)
       (ap (λ n. filter (in_subtree m.ledger.groups g) (range_with_len k n)) none) s.so_far)
 
   -- each group of the subtree had its turn
-  pub all_tried : AreGroups m.ledger.groups → most_groups ≤ k → is_last pass m.ledger.settings ≡ true → freed < want → MissedAll g m now
+  pub all_tried : AreGroups m.ledger.groups → room_of m.ledger.groups ≤ k → is_last pass m.ledger.settings ≡ true → freed < want → MissedAll g m now
   all_tried facts past last less other inside =
       let there : in_subtree m.ledger.groups g other ≡ true = ap (λ (l : List Group). in_subtree l g other) (sym s.keeps.groups) ∙ inside in
-      let low = number_below m.ledger.groups other facts (in_subtree-below m.ledger.groups g other there) in
+      let low = number_in_room m.ledger.groups other facts (in_subtree-below m.ledger.groups g other there) in
       s.tried last less other (omega (arith, low, past)) there
 
 -- without shares it is a pass of the reclaim

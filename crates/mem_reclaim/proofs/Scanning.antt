@@ -4,7 +4,6 @@ use Rattle.std.proofs.Common.{refl, sym, ap, ◌∙◌, subst, inl, inr, arith}
 use Rattle.std.proofs.lemmas.Bool.{cases_eq, ne_eqb, false≢true}
 use Rattle.std.proofs.lemmas.Option.{none-some}
 use Rattle.std.proofs.lemmas.List.{append_assoc, append-nil}
-use Rattle.group_tree.specs.Bounds.{most_groups}
 use Rattle.group_tree.specs.declared.group.Group.{Group}
 use Rattle.group_tree.specs.Groups.{in_subtree}
 use Rattle.group_charge.specs.Charges.{current_of}
@@ -50,10 +49,10 @@ first_is_next : (next : Option Entry) (entries : List Entry) → next ≡ first_
 first_is_next next [] is = tt
 first_is_next next (e ∷ es) is = is
 
-pub scan_first : (t : KnownTable) (m : KnownMachine) → IsConsistent t m → (spares_marked : Bool) (g : ℕ) → g < most_groups
-    → (list : LruList) (want : ℕ)
+pub scan_first : (t : KnownTable) (m : KnownMachine) → IsConsistent t m → (spares_marked : Bool) (g : ℕ)
+    (list : LruList) (want : ℕ)
     (next : Option Entry) → next ≡ first_entry (entries_in m g list) → ScanSoFar t spares_marked g list want m 0 0 next m
-scan_first t m ok spares_marked g fits list want next is = record {
+scan_first t m ok spares_marked g list want next is = record {
   stayed = [];
   todo = entries_in m g list;
   moved = [];
@@ -65,7 +64,7 @@ scan_first t m ok spares_marked g fits list want next is = record {
   usage = λ x below. omega arith;
   few = omega arith;
   leaves = λ off f h home. home;
-  missed = λ off f home clean. inl ((listed_is t m ok g fits list).at_home f home);
+  missed = λ off f home clean. inl ((listed_is t m ok g list).at_home f home);
 }
 
 -- ---- the unit that is met next
@@ -86,7 +85,7 @@ ahead_is next (e ∷ es) i n is left lt u some = (es, ap (λ (x : Entry). x ∷ 
     same : (a b : Entry) → Some a ≡ Some b → a ≡ b
     same a b e = cc
 
-module _ (t : KnownTable) (spares_marked : Bool) (g : ℕ) (fits : g < most_groups) (list : LruList) (want : ℕ) (m : KnownMachine) (i freed : ℕ)
+module _ (t : KnownTable) (spares_marked : Bool) (g : ℕ) (list : LruList) (want : ℕ) (m : KnownMachine) (i freed : ℕ)
     (next : Option Entry) (now : KnownMachine) (ok : IsConsistent t now) (s : ScanSoFar t spares_marked g list want m i freed next now)
     (units : ℕ) (counted : units ≡ length (entries_in m g list)) (left : i < units) (u : Entry) (some : next ≡ Some u) where
   entries_are : (rest : List Entry) → s.todo ≡ u ∷ rest → entries_in now g list ≡ s.stayed ++ u ∷ (rest ++ s.moved)
@@ -96,7 +95,7 @@ module _ (t : KnownTable) (spares_marked : Bool) (g : ℕ) (fits : g < most_grou
   scan_here =
       let a = ahead_is next s.todo i units s.next_is (s.left ∙ sym counted) left u some in
       let ys : List Entry = a.0 ++ s.moved in
-      let is : IsListed now g list (s.stayed ++ u ∷ ys) = subst (IsListed now g list) (entries_are a.0 a.1) (listed_is t now ok g fits list) in
+      let is : IsListed now g list (s.stayed ++ u ∷ ys) = subst (IsListed now g list) (entries_are a.0 a.1) (listed_is t now ok g list) in
       let home = is.homes u.number (has_mid s.stayed ys u u.number refl) in
       record {
         rest = a.0;

@@ -2,7 +2,7 @@
 use Rattle.std.specs.Prelude.{◌≡◌, ℕ, ◌-◌, ◌≤◌, ◌==◌, ◌&&◌, ◌⊎◌, Bool, true, false, not, min, max, nat_lt, if◌then◌else◌}
 use Rattle.std.specs.Prelude.{List, [], ◌∷◌, ◌++◌, filter, length}
 use Rattle.std.specs.List.{range_with_len}
-use Rattle.group_tree.specs.{most_groups, in_subtree}
+use Rattle.group_tree.specs.{in_subtree, room_of}
 use Rattle.group_tree.specs.declared.event.EventKey.TheVariants as event
 use Rattle.group_tree.specs.declared.group.Group.{Group}
 use Rattle.group_charge.specs.declared.note.Note.{Note}
@@ -115,7 +115,7 @@ TakesTurn pass target group want done =
 
 -- the groups of the subtree, by ascending number
 unfoldable pub subtree_of : List Group → ℕ → List ℕ
-subtree_of groups group = filter (in_subtree groups group) (range_with_len 0 most_groups)
+subtree_of groups group = filter (in_subtree groups group) (range_with_len 0 (room_of groups))
 
 -- one pass over the groups of the subtree, by ascending number
 abbrev pub ReclaimsPass : (target : ℕ) → Pass → ℕ → Reclaiming

@@ -1,7 +1,7 @@
 -- Which groups are killed with a victim: a whole subtree, or the victim alone (memory.oom.group of cgroup-v2.rst).
 use Rattle.std.specs.Prelude.{◌≡◌, ℕ, ◌&&◌, ◌⊎◌, Bool, true, false, Option, Some, None, List, [], ◌∷◌, length, filter, if◌then◌else◌}
 use Rattle.std.specs.List.{range_with_len}
-use Rattle.group_tree.specs.{most_groups, in_subtree, is_oom_group}
+use Rattle.group_tree.specs.{in_subtree, is_oom_group, room_of}
 use Rattle.group_tree.specs.declared.group.Group.{Group}
 use Rattle.group_charge.specs.declared.note.Note.{Note}
 use Rattle.group_charge.specs.declared.note.Note.TheVariants as note
@@ -39,7 +39,8 @@ IsKilledRoot groups limited killed =
 
 -- the groups of the subtree that aren't killed, by ascending number
 abbrev pub alive_in_subtree : KnownMachine → ℕ → List ℕ
-alive_in_subtree machine killed_root = filter (may_be_killed machine killed_root) (range_with_len 0 most_groups)
+alive_in_subtree machine killed_root =
+    filter (may_be_killed machine killed_root) (range_with_len 0 (room_of machine.ledger.groups))
 
 -- which groups are killed, in this order: if the killed root's flag is on, all groups of its subtree that aren't
 -- killed; else the victim alone

@@ -1,7 +1,7 @@
 -- Reclaim in proportion: a pass in which each group gives no more than its share. Linux scans each group in proportion
 -- to its lists (`shrink_node_memcgs`, `get_scan_count`).
 use Rattle.std.specs.Prelude.{ℕ, ◌-◌, Bool, true, false, Option, Some, None, min, slice_index, if◌then◌else◌}
-use Rattle.group_tree.specs.{most_groups, in_subtree}
+use Rattle.group_tree.specs.{in_subtree, room_of}
 use Rattle.group_charge.specs.Charges.{current_of}
 use Rattle.group_protection.specs.Protections.{effective, low_key, min_key}
 use Rattle.group_protection.specs.Shares.{Sharing, reclaim_share}
@@ -23,11 +23,12 @@ may_give machine target group =
 
 -- the group's share of this many pages that a reclaim with this target wants, if it begins with this machine
 abbrev pub share_in_reclaim : KnownMachine → (target want group : ℕ) → ℕ
-share_in_reclaim machine target want group = reclaim_share most_groups (may_give machine target) want group
+share_in_reclaim machine target want group =
+    reclaim_share (room_of machine.ledger.groups) (may_give machine target) want group
 
 -- the shares that these numbers of pages make up
 abbrev pub shares_by : Sharing → (group : ℕ) → ℕ
-shares_by sharing group = reclaim_share most_groups (slice_index sharing.available) sharing.want group
+shares_by sharing group = reclaim_share sharing.room (slice_index sharing.available) sharing.want group
 
 -- how many pages a turn wants: all that are wanted, or no more than the group's share if there are shares
 abbrev pub part_of : Option (ℕ → ℕ) → (group want : ℕ) → ℕ

@@ -1,6 +1,6 @@
 -- Which group is killed if a limit can't be kept otherwise.
 use Rattle.std.specs.Prelude.{◌≡◌, ℕ, ◌≤◌, ◌==◌, ◌&&◌, ◌⊎◌, not, nat_le, Bool, true, false, Option, Some, None}
-use Rattle.group_tree.specs.{most_groups, in_subtree}
+use Rattle.group_tree.specs.{in_subtree, room_of}
 use Rattle.step_rules.specs.State.{one_if, sum_to}
 use Rattle.group_charge.specs.declared.note.Candidate.{Candidate}
 use Rattle.group_charge.specs.declared.note.Note.{Note}
@@ -56,7 +56,7 @@ is_candidate machine group other = may_be_killed machine group other && nat_le 1
 
 -- how many groups may be killed for the group and have frames of their own
 abbrev pub candidates : KnownMachine → ℕ → ℕ
-candidates machine group = sum_to most_groups (λ other. one_if (is_candidate machine group other))
+candidates machine group = sum_to (room_of machine.ledger.groups) (λ other. one_if (is_candidate machine group other))
 
 -- a group with the number of its frames
 abbrev pub candidate : KnownMachine → ℕ → Candidate

@@ -15,7 +15,7 @@ use crate::noting::{count_before_kill, note_killed, note_subtree, note_victim};
 use crate::sets::{Killed, highest_flagged};
 use crate::victims::{may_be_killed, victim};
 use cpu_part::{BootName, Tables};
-use group_tree::group::{GroupId, MAX_GROUPS};
+use group_tree::group::GroupId;
 use lru_lists::record::LruList;
 use mem_machine::Machine;
 
@@ -108,7 +108,7 @@ fn kill_below<N: BootName>(
     ensures none_kept { All (λ group. HasNoKeptUnit group machine.new) (alive_in_subtree machine.old killed_root) }
     ensures keeps { OnlyReleases N.table machine.old machine.new }
 {
-    for number in 0..MAX_GROUPS as u32 {
+    for number in 0..machine.room() {
         let Some(turn) = GroupId::of(number) else {
             unreachable!()
         };

@@ -20,7 +20,7 @@ use cpu_part::{BootName, Tables};
 use group_charge::note::Note;
 use group_protection::protecting::{Protection, protection_of};
 use group_protection::reclaim_shares::Shares;
-use group_tree::group::{GroupId, MAX_GROUPS};
+use group_tree::group::GroupId;
 use lru_lists::record::LruList;
 use mem_machine::{Machine, is_in_subtree, prove_charges};
 use step_rules::step::NoteKey;
@@ -287,7 +287,7 @@ pub(crate) fn reclaim_pass<N: BootName>(
     prove_charges(machine.charges());
     machine.prove_usage(target); // At most this many pages are freed.
     let mut freed = 0;
-    for number in 0..MAX_GROUPS as u32 {
+    for number in 0..machine.room() {
         if want <= freed {
             return freed;
         }

@@ -1,7 +1,7 @@
 //! Reclaim in proportion: a pass in which each group gives no more than its share.
 
 ghost use Rattle.std.specs.Prelude.{◌≡◌, ◌<◌, ◌+◌, IsTrue, slice_index};
-ghost use Rattle.group_tree.specs.Groups.{has_group};
+ghost use Rattle.group_tree.specs.Groups.{has_group, room_of};
 ghost use Rattle.group_charge.specs.Charges.{current_of};
 ghost use Rattle.boot_words.specs.Pasts.{IsHeld};
 ghost use Rattle.mem_reclaim.specs.Moves.{FreesBySteps};
@@ -36,18 +36,20 @@ fn may_give<N: BootName>(machine: &Machine<N>, target: GroupId, group: GroupId) 
 // The shares of a reclaim of `want` pages from the subtree of `target`.
 fn shares_of<N: BootName>(machine: &Machine<N>, target: GroupId, want: u64) -> Shares
     requires { IsTrue (has_group machine.now.ledger.groups target) }
+    ensures room { result.room ≡ room_of machine.now.ledger.groups }
     ensures available { slice_index result.available ≡ may_give machine.now target }
     ensures want { result.want ≡ want }
 {
     prove_charges(machine.charges());
+    let room = machine.room();
     let mut available = [0; MAX_GROUPS];
-    for number in 0..MAX_GROUPS as u32 {
+    for number in 0..room {
         let Some(group) = GroupId::of(number) else {
             unreachable!()
         };
         available[number as usize] = may_give(machine, target, group);
     }
-    Shares::new(available, want)
+    Shares::new(available, room, want)
 }
 
 /// The pass of shares over the subtree of `target`. It ages lists and spares marked units, as a first pass does. Returns

@@ -8,7 +8,7 @@ ghost use Rattle.mem_reclaim.specs.Victim.{may_be_chosen, may_be_killed};
 ghost use Rattle.mem_reclaim.specs.Sets.{alive_in_subtree};
 
 use cpu_part::BootName;
-use group_tree::group::{GroupId, MAX_GROUPS};
+use group_tree::group::GroupId;
 use mem_machine::{Machine, is_in_subtree, prove_charges};
 
 /// Whether the other group is the group or a descendant of it, and isn't killed.
@@ -59,7 +59,7 @@ fn most_charged<N: BootName>(
     prove_charges(machine.charges());
     let mut best = None;
     let mut most = 0;
-    for number in 0..MAX_GROUPS as u32 {
+    for number in 0..machine.room() {
         let Some(turn) = GroupId::of(number) else {
             unreachable!()
         };
@@ -114,7 +114,7 @@ pub(crate) fn count_candidates<N: BootName>(machine: &Machine<N>, group: GroupId
     ensures { result ≡ candidates machine.now group }
 {
     let mut count = 0;
-    for number in 0..MAX_GROUPS as u32 {
+    for number in 0..machine.room() {
         let Some(turn) = GroupId::of(number) else {
             unreachable!()
         };
@@ -131,7 +131,7 @@ pub(crate) fn count_alive<N: BootName>(machine: &Machine<N>, group: GroupId) -> 
     ensures { result ≡ length (alive_in_subtree machine.now group) }
 {
     let mut count = 0;
-    for number in 0..MAX_GROUPS as u32 {
+    for number in 0..machine.room() {
         let Some(turn) = GroupId::of(number) else {
             unreachable!()
         };

@@ -22,6 +22,7 @@ use Rattle.cpu_part.specs.{KnownCpuLists, HasOwn}
 use Rattle.lru_lists.specs.declared.record.Home.{Home}
 use Rattle.mem_machine.specs.declared.frame_state.FrameState.{FrameState}
 use Rattle.mem_machine.specs.declared.frame_state.FrameState.TheVariants.{Lent, Head}
+use Rattle.group_tree.specs.Groups.{room_of}
 use Rattle.mem_machine.specs.{frame_state_at, head_group_of, phase_hidden, FitsFrameState, KnownMachine, IsConsistent, home_of, left_by}
 use Rattle.mem_machine.specs.{Rests}
 use Rattle.mem_machine.proofs.NoneLent.{lent_to_cpu}
@@ -36,10 +37,10 @@ some_seat (suc n) h some = elim (cases_lt 0 (h n)) [
   | inr none ↦ let rest = some_seat n h (omega (arith, some, none)) in (rest.0, (let low = rest.1 in omega (arith, low)), rest.2)
 ]
 
-some_home : (home : Option Home) (x : FrameState) (g : ℕ) → FitsFrameState home x → head_group_of x ≡ Some g
+some_home : (room : ℕ) (home : Option Home) (x : FrameState) (g : ℕ) → FitsFrameState room home x → head_group_of x ≡ Some g
     → ((h : Home) × (home ≡ Some h) × (h.owner ≡ g)) ⊎ (home ≡ None)
-some_home None x g kept group = inr refl
-some_home (Some h) x g kept group = inl (h, refl, ap (λ (o : Option ℕ). unwrap_or o 0) (sym kept.1 ∙ group))
+some_home room None x g kept group = inr refl
+some_home room (Some h) x g kept group = inl (h, refl, ap (λ (o : Option ℕ). unwrap_or o 0) (sym kept.1 ∙ group))
 
 -- a head that looks live has references, or is a CPU's back frame
 two_ways : (x : Phase) (u : ChargedUnit) → hide_phase x ≡ phase.Head u Live
@@ -111,7 +112,7 @@ module _ (t : KnownTable) (m : KnownMachine) (ok : IsConsistent t m) (rests : Re
         omega (arith, block, some, sized)
 
     found : IsKeptFor m u.group f ⊎ SomeCpu cpus (HasUnit f)
-    found = elim (some_home (home_of m.links f) (frame_state_at m.frame_states f) u.group (ok.frame_states f inside) (ap head_group_of is)) [
+    found = elim (some_home (room_of m.ledger.groups) (home_of m.links f) (frame_state_at m.frame_states f) u.group (ok.frame_states f inside) (ap head_group_of is)) [
       | inl home ↦ inl home
       | inr none ↦ inr (elim (two_ways (s.phases f) u (looks f (Head u) is)) [
         | inl live ↦ referred none live

@@ -1,4 +1,4 @@
-use Rattle.std.proofs.Common.{◌≡◌, ◌++◌, ◌+◌, ℕ, ◌<◌, ◌≤◌, IfOk, append-nil, ap, arith, rules, subst, sym, ◌∙◌}
+use Rattle.std.proofs.Common.{◌≡◌, ◌++◌, ◌+◌, ℕ, ◌≤◌, IfOk, append-nil, ap, arith, subst, sym, ◌∙◌}
 use Rattle.std.proofs.lemmas.Option.{none-some}
 use Rattle.std.specs.String.{string_bytes}
 use Rattle.boot_words.specs.{LoadsReferences, own_past, zone_of_boot, KnownTable}
@@ -13,8 +13,7 @@ loop-seen-init g c = met_none g.N.BootName.table c.args.group c.args.list c.args
 
 pub unreachable-requires-in_default-frame : goal.unreachable-requires-in_default-frame
 unreachable-requires-in_default-frame g c =
-    let fits : c.args.group < 64 = search rules in
-    let lt = (is_met g.N.BootName.table c.args.group fits c.args.list c.args.machine.now c.loop-seen._seen c.loop-seen.next c.loop-seen.machine _
+    let lt = (is_met g.N.BootName.table c.args.group c.args.list c.args.machine.now c.loop-seen._seen c.loop-seen.next c.loop-seen.machine _
     c.prove_consistent.ensures c.loop-seen.invariant c.in-Some.entry c.in-Some.is).inside in
     let le : c.args.tables.now.words.frames ≤ c.in-Some.entry.number = c.in_default-frame.ensures {u = tt} in
     let tie = ap (λ (x : KnownTable). x.frames) c.args.tables.now.words_are in
@@ -22,21 +21,18 @@ unreachable-requires-in_default-frame g c =
 
 pub newer-next-requires-clause-home : goal.newer-next-requires-clause-home
 newer-next-requires-clause-home g c =
-    let fits : c.args.group < 64 = search rules in
     ap (home_of c.loop-seen.machine.links) c.in-Some-frame.ensures.0
-    ∙ (is_met g.N.BootName.table c.args.group fits c.args.list c.args.machine.now c.loop-seen._seen c.loop-seen.next c.loop-seen.machine _
+    ∙ (is_met g.N.BootName.table c.args.group c.args.list c.args.machine.now c.loop-seen._seen c.loop-seen.next c.loop-seen.machine _
     c.prove_consistent.ensures c.loop-seen.invariant c.in-Some.entry c.in-Some.is).home
 
 pub pins_on-pins-requires-clause-kept : goal.pins_on-pins-requires-clause-kept
 pins_on-pins-requires-clause-kept g c none =
-    let fits : c.args.group < 64 = search rules in
-    let home = (is_met g.N.BootName.table c.args.group fits c.args.list c.args.machine.now c.loop-seen._seen c.loop-seen.next c.loop-seen.machine _
+    let home = (is_met g.N.BootName.table c.args.group c.args.list c.args.machine.now c.loop-seen._seen c.loop-seen.next c.loop-seen.machine _
     c.prove_consistent.ensures c.loop-seen.invariant c.in-Some.entry c.in-Some.is).home in
     none-some _ (sym none ∙ ap (home_of c.loop-seen.machine.links) c.in-Some-frame.ensures.0 ∙ home)
 
 pub loop-seen-preserved : goal.loop-seen-preserved
 loop-seen-preserved g c =
-    let fits : c.args.group < 64 = search rules in
     let now = c.loop-seen.machine in
     let at = c.in-Some-frame.ensures.0 in
     let pins = c.pins_on-pins.result in
@@ -44,7 +40,7 @@ loop-seen-preserved g c =
     ≡ string_bytes c.loop-seen.text ++ unit_text order (listed c.args.list c.in-Some.entry) pins) =
     λ order is. subst (λ (k : ℕ). IfOk c.write_unit-line.result (λ _. string_bytes c.write_unit-line.new.text
     ≡ string_bytes c.loop-seen.text ++ unit_text k (listed c.args.list c.in-Some.entry) pins)) is c.write_unit-line.ensures in
-    met_more g.N.BootName.table c.args.group fits c.args.list c.args.machine.now c.loop-seen._seen c.loop-seen.next now _
+    met_more g.N.BootName.table c.args.group c.args.list c.args.machine.now c.loop-seen._seen c.loop-seen.next now _
     c.prove_consistent.ensures c.loop-seen.invariant c.in-Some.entry c.in-Some.is c.newer-next.result
     (c.newer-next.ensures ∙ ap (λ (x : ℕ). entry_after x (entries_in now c.args.group c.args.list)) at) pins c.pins_on-pins.ensures.most
     (subst (λ (x : ℕ). LoadsReferences (zone_of_boot g.N.BootName.table) (own_past now.run.past) x (pins + 1)) at c.pins_on-pins.ensures.pins)

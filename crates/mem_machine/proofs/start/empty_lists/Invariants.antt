@@ -1,5 +1,4 @@
 use Rattle.std.proofs.Common.{◌≡◌, vec_capacity}
-use Rattle.group_tree.specs.Bounds.{most_groups}
 use Rattle.mem_machine.specs.Start.{AreEmpty}
 use Rattle.mem_machine.proofs.start.empty_lists.Given as goal
 
@@ -7,5 +6,5 @@ use Rattle.mem_machine.proofs.start.empty_lists.Given as goal
 abbrev pub invariant-loop-owner : goal.invariant-loop-owner
 invariant-loop-owner l = record {
   empty : AreEmpty l.lists.items l.owner;
-  room : vec_capacity l.lists ≡ most_groups;
+  room : vec_capacity l.lists ≡ l.room;
 }

@@ -1,4 +1,4 @@
-use Rattle.std.proofs.Common.{◌≡◌, ◌+◌, ℕ, sym, ap, ◌∙◌, subst, rules}
+use Rattle.std.proofs.Common.{◌≡◌, ◌+◌, ℕ, sym, ap, ◌∙◌, subst, arith, rules}
 use Rattle.mem_machine.specs.Machines.{KnownMachine}
 use Rattle.mem_reclaim.specs.Victim.{may_be_killed}
 use Rattle.mem_reclaim.proofs.Choosing.{chosen_there}
@@ -46,5 +46,5 @@ pub returns : goal.returns
 returns g c =
     let so = below_all g.N.BootName.table c.args.limited c.args.killed_root c.args.machine.now c.loop-number.number c.loop-number.machine
     c.loop-number.invariant
-    (search rules) in
+    (omega (arith, c.loop-number.auto.number-end, c.room-number-end.ensures.groups)) in
     record { kills = so.kills; marked = so.marked; drained = so.drained; stocks = so.stocks; none_kept = so.none_kept; keeps = so.keeps }

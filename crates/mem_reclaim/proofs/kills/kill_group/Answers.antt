@@ -1,5 +1,3 @@
-use Rattle.std.proofs.Common.{◌<◌, rules}
-use Rattle.group_tree.specs.Bounds.{most_groups}
 use Rattle.mem_reclaim.proofs.LettingGo.{all_killed}
 use Rattle.mem_machine.specs.Steps.{drain_stocks_steps, kill_steps}
 use Rattle.mem_reclaim.proofs.Grown.{held_after}
@@ -32,8 +30,7 @@ release_units-requires-2 g c =
 
 pub returns : goal.returns
 returns g c =
-    let fits : c.args.group < most_groups = search rules in
-    let all = all_killed g.N.BootName.table c.args.group fits c.args.machine.now c.mark_killed.new.self c.drain_group_stocks.new.self
+    let all = all_killed g.N.BootName.table c.args.group c.args.machine.now c.mark_killed.new.self c.drain_group_stocks.new.self
     c.release_units.new.machine c.release_units-2.new.machine c.mark_killed.ensures.machine c.mark_killed.ensures.usage c.mark_killed.ensures.steps c.mark_killed.ensures.visit c.requires.held
     c.drain_group_stocks.result c.drain_group_stocks.ensures.drains c.drain_group_stocks.ensures.drained c.drain_group_stocks.ensures.visit c.release_units.ensures.releases c.release_units.ensures.empty c.release_units.ensures.keeps
     c.release_units.ensures.stocks c.prove_consistent.ensures c.release_units-2.ensures.releases c.release_units-2.ensures.empty c.release_units-2.ensures.keeps

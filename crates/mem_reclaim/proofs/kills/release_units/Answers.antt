@@ -1,6 +1,5 @@
-use Rattle.std.proofs.Common.{◌<◌, ◌≤◌, length, ap, sym, ◌∙◌, arith, rules}
+use Rattle.std.proofs.Common.{◌≤◌, length, ap, sym, ◌∙◌, arith}
 use Rattle.std.proofs.lemmas.Option.{none-some}
-use Rattle.group_tree.specs.Bounds.{most_groups}
 use Rattle.boot_words.specs.Tables.{KnownTable}
 use Rattle.mem_machine.specs.{home_of, entries_in}
 use Rattle.mem_reclaim.proofs.LettingGo.{let_go_done, let_go_empty, let_go_first, let_go_more, oldest_is}
@@ -12,8 +11,7 @@ loop-unit-init g c = let_go_first g.N.BootName.table c.args.group c.args.list c.
 
 pub unreachable-requires-in_default-frame : goal.unreachable-requires-in_default-frame
 unreachable-requires-in_default-frame g c =
-    let fits : c.args.group < most_groups = search rules in
-    let o = oldest_is g.N.BootName.table c.args.group fits c.args.list c.loop-unit.machine c.prove_consistent.ensures
+    let o = oldest_is g.N.BootName.table c.args.group c.args.list c.loop-unit.machine c.prove_consistent.ensures
     c.in-Some.unit c.oldest.result c.oldest.ensures c.in-Some.is in
     let lt = o.inside in
     let le : c.args.tables.now.words.frames ≤ c.in-Some.unit.number = c.in_default-frame.ensures {u = tt} in
@@ -22,8 +20,7 @@ unreachable-requires-in_default-frame g c =
 
 pub put_zone_reference-requires-clause-kept : goal.put_zone_reference-requires-clause-kept
 put_zone_reference-requires-clause-kept g c none =
-    let fits : c.args.group < most_groups = search rules in
-    let o = oldest_is g.N.BootName.table c.args.group fits c.args.list c.loop-unit.machine c.prove_consistent.ensures
+    let o = oldest_is g.N.BootName.table c.args.group c.args.list c.loop-unit.machine c.prove_consistent.ensures
     c.in-Some.unit c.oldest.result c.oldest.ensures c.in-Some.is in
     none-some _ (sym none ∙ ap (home_of c.loop-unit.machine.links) c.in-Some-frame.ensures.0 ∙ o.home)
 
@@ -34,8 +31,7 @@ put_zone_reference-requires-clause-held g c =
 
 pub loop-unit-preserved : goal.loop-unit-preserved
 loop-unit-preserved g c =
-    let fits : c.args.group < most_groups = search rules in
-    let o = oldest_is g.N.BootName.table c.args.group fits c.args.list c.loop-unit.machine c.prove_consistent.ensures
+    let o = oldest_is g.N.BootName.table c.args.group c.args.list c.loop-unit.machine c.prove_consistent.ensures
     c.in-Some.unit c.oldest.result c.oldest.ensures c.in-Some.is in
     let_go_more g.N.BootName.table c.args.group c.args.list c.args.machine.now c.loop-unit._unit c.loop-unit.machine c.loop-unit.invariant c.in-Some.unit o
     c.in-Some-frame.frame c.in-Some-frame.ensures.0 c.put_zone_reference.result c.put_zone_reference.new.self c.put_zone_reference.ensures.releases c.put_zone_reference.ensures.visit c.put_zone_reference.ensures.steps

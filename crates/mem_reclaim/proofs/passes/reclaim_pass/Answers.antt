@@ -1,5 +1,5 @@
-use Rattle.std.proofs.Common.{◌≡◌, true, false, rules, subst}
-use Rattle.group_tree.specs.Groups.{AreGroups, in_subtree}
+use Rattle.std.proofs.Common.{◌≡◌, ◌≤◌, true, false, arith, rules, subst}
+use Rattle.group_tree.specs.Groups.{AreGroups, in_subtree, room_of}
 use Rattle.group_tree.proofs.CallerLemmas.{in_subtree-below}
 use Rattle.group_charge.specs.Charges.{Ledger}
 use Rattle.mem_reclaim.proofs.Passing.{all_tried, pass_none, pass_more, pass_enough, pass_done, pass_skips, shares_first}
@@ -16,7 +16,7 @@ pub loop-number-preserved-then-not-is_in_subtree : goal.loop-number-preserved-th
 loop-number-preserved-then-not-is_in_subtree g c =
     let turn : c.in-Some.turn ≡ c.loop-number.number = search rules in
     let away : in_subtree c.loop-number.machine.ledger.groups c.args.target c.in-Some.turn ≡ false = cc in
-    pass_skips _ _ _ _ _ _ _ _ _ c.loop-number.invariant c.in-Some.turn turn c.loop-number-test.true away
+    pass_skips _ _ _ _ _ _ _ _ _ c.loop-number.invariant c.in-Some.turn turn (omega (arith, c.loop-number-test.true, c.room-number-end.ensures.groups)) away
 
 pub take_turn-freed-requires-clause-inside : goal.take_turn-freed-requires-clause-inside
 take_turn-freed-requires-clause-inside g c = cc
@@ -35,13 +35,13 @@ loop-number-preserved g c =
     let e = c.take_turn-freed.ensures in
     let turn : c.in-Some.turn ≡ c.loop-number.number = search rules in
     let inside : in_subtree c.loop-number.machine.ledger.groups c.args.target c.in-Some.turn ≡ true = cc in
-    pass_more _ _ _ _ _ _ _ _ _ c.loop-number.invariant (shares_first _ _ _ c.requires.shares) c.if-want-freed.false c.in-Some.turn turn c.loop-number-test.true inside
+    pass_more _ _ _ _ _ _ _ _ _ c.loop-number.invariant (shares_first _ _ _ c.requires.shares) c.if-want-freed.false c.in-Some.turn turn (omega (arith, c.loop-number-test.true, c.room-number-end.ensures.groups)) inside
     c.part_of-part.result c.take_turn-freed.result c.take_turn-freed.new.machine c.part_of-part.ensures e.turn e.keeps e.usage e.few e.leaves e.tried
 
 pub returns : goal.returns
 returns g c =
     let so = c.loop-number.invariant in
-    let past = c.loop-number-test.false in
+    let past : room_of c.args.machine.now.ledger.groups ≤ c.loop-number.number = omega (arith, c.loop-number-test.false, c.room-number-end.ensures.groups) in
     let facts = subst (λ (l : Ledger). AreGroups l.groups) c.charges.ensures c.prove_charges.ensures.legal.groups in
     record {
       passes = pass_done _ _ _ _ _ _ _ _ _ so past;

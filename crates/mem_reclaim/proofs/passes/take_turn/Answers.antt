@@ -1,4 +1,4 @@
-use Rattle.group_tree.proofs.CallerLemmas.{in_subtree-refl, number_below}
+use Rattle.group_tree.proofs.CallerLemmas.{in_subtree-refl}
 use Rattle.std.proofs.Common.{sym, ap, ◌∙◌, subst}
 use Rattle.boot_words.specs.Pasts.{IsHeld}
 use Rattle.group_tree.specs.Groups.{AreGroups, has_group}
@@ -16,8 +16,7 @@ returns-then-keeps_no_unit g c =
     let m = c.args.machine.now in
     let facts = subst (λ (l : Ledger). AreGroups l.groups) c.charges-charges.ensures c.prove_charges.ensures.legal.groups in
     let taken =
-    turn_of_none g.N.BootName.table c.args.group m c.prove_consistent.ensures (number_below m.ledger.groups c.args.group facts c.requires.there)
-    (sym c.keeps_no_unit.ensures ∙ c.if-keeps_no_unit.true) c.args.pass c.args.target c.args.want facts c.requires.inside
+    turn_of_none g.N.BootName.table c.args.group m c.prove_consistent.ensures (sym c.keeps_no_unit.ensures ∙ c.if-keeps_no_unit.true) c.args.pass c.args.target c.args.want facts c.requires.inside
     (in_subtree-refl m.ledger.groups c.args.group c.requires.there) in
     record { turn = taken.turn; keeps = taken.keeps; usage = taken.usage; few = taken.few; leaves = taken.leaves; tried = taken.tried }
 

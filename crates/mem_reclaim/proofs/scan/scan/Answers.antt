@@ -1,5 +1,4 @@
-use Rattle.std.proofs.Common.{◌<◌, ◌≤◌, sym, ap, ◌∙◌, arith, rules}
-use Rattle.group_tree.specs.Bounds.{most_groups}
+use Rattle.std.proofs.Common.{◌≤◌, sym, ap, ◌∙◌, arith, rules}
 use Rattle.group_tree.proofs.CallerLemmas.{in_subtree-refl}
 use Rattle.lru_lists.specs.Lists.{entry_of}
 use Rattle.boot_words.specs.Tables.{KnownTable}
@@ -10,8 +9,7 @@ use Rattle.mem_reclaim.proofs.scan.scan.Goals as goal
 
 pub loop-met-init : goal.loop-met-init
 loop-met-init g c =
-    let fits : c.args.group < most_groups = search rules in
-    scan_first g.N.BootName.table c.args.machine.now c.prove_consistent.ensures c.args.spares_marked c.args.group fits
+    scan_first g.N.BootName.table c.args.machine.now c.prove_consistent.ensures c.args.spares_marked c.args.group
     c.args.list
     c.args.want c.oldest-next.result c.oldest-next.ensures
 
@@ -23,8 +21,7 @@ returns-then-want-freed-clause-scans g c =
 
 pub unreachable-requires-in_default-frame : goal.unreachable-requires-in_default-frame
 unreachable-requires-in_default-frame g c =
-    let fits : c.args.group < most_groups = search rules in
-    let h = scan_here g.N.BootName.table c.args.spares_marked c.args.group fits c.args.list c.args.want c.args.machine.now
+    let h = scan_here g.N.BootName.table c.args.spares_marked c.args.group c.args.list c.args.want c.args.machine.now
     c.loop-met._met c.loop-met.freed c.loop-met.next c.loop-met.machine c.prove_consistent-in-loop-met.ensures c.loop-met.invariant c.list_len-units.result
     c.list_len-units.ensures c.loop-met-test.true c.in-Some.unit c.in-Some.is in
     let lt = h.inside in
@@ -34,24 +31,21 @@ unreachable-requires-in_default-frame g c =
 
 pub newer-next-requires-clause-home : goal.newer-next-requires-clause-home
 newer-next-requires-clause-home g c =
-    let fits : c.args.group < most_groups = search rules in
-    let h = scan_here g.N.BootName.table c.args.spares_marked c.args.group fits c.args.list c.args.want c.args.machine.now
+    let h = scan_here g.N.BootName.table c.args.spares_marked c.args.group c.args.list c.args.want c.args.machine.now
     c.loop-met._met c.loop-met.freed c.loop-met.next c.loop-met.machine c.prove_consistent-in-loop-met.ensures c.loop-met.invariant c.list_len-units.result
     c.list_len-units.ensures c.loop-met-test.true c.in-Some.unit c.in-Some.is in
     ap (home_of c.loop-met.machine.links) c.in-Some-frame.ensures.0 ∙ h.home
 
 pub try_reclaim-requires-clause-unit : goal.try_reclaim-requires-clause-unit
 try_reclaim-requires-clause-unit g c =
-    let fits : c.args.group < most_groups = search rules in
-    let h = scan_here g.N.BootName.table c.args.spares_marked c.args.group fits c.args.list c.args.want c.args.machine.now
+    let h = scan_here g.N.BootName.table c.args.spares_marked c.args.group c.args.list c.args.want c.args.machine.now
     c.loop-met._met c.loop-met.freed c.loop-met.next c.loop-met.machine c.prove_consistent-in-loop-met.ensures c.loop-met.invariant c.list_len-units.result
     c.list_len-units.ensures c.loop-met-test.true c.in-Some.unit c.in-Some.is in
     h.read ∙ ap (entry_of c.loop-met.machine.links) (sym c.in-Some-frame.ensures.0)
 
 pub try_reclaim-requires-clause-home : goal.try_reclaim-requires-clause-home
 try_reclaim-requires-clause-home g c =
-    let fits : c.args.group < most_groups = search rules in
-    let h = scan_here g.N.BootName.table c.args.spares_marked c.args.group fits c.args.list c.args.want c.args.machine.now
+    let h = scan_here g.N.BootName.table c.args.spares_marked c.args.group c.args.list c.args.want c.args.machine.now
     c.loop-met._met c.loop-met.freed c.loop-met.next c.loop-met.machine c.prove_consistent-in-loop-met.ensures c.loop-met.invariant c.list_len-units.result
     c.list_len-units.ensures c.loop-met-test.true c.in-Some.unit c.in-Some.is in
     ap (home_of c.loop-met.machine.links) c.in-Some-frame.ensures.0 ∙ h.home
@@ -63,11 +57,10 @@ try_reclaim-requires-clause-held g c =
 
 pub loop-met-preserved : goal.loop-met-preserved
 loop-met-preserved g c =
-    let fits : c.args.group < most_groups = search rules in
     let small = c.try_reclaim.ensures.few in
     let e = c.from-freed.ensures in
     rw e
-    (scan_more g.N.BootName.table c.args.spares_marked c.args.group fits c.args.list c.args.want c.args.machine.now
+    (scan_more g.N.BootName.table c.args.spares_marked c.args.group c.args.list c.args.want c.args.machine.now
     c.loop-met._met c.loop-met.freed c.loop-met.next c.loop-met.machine c.prove_consistent-in-loop-met.ensures c.loop-met.invariant c.list_len-units.result
     c.list_len-units.ensures c.loop-met-test.true c.in-Some.unit c.in-Some.is c.try_reclaim.result c.try_reclaim.new.machine c.requires.inactive c.if-want-freed.false
     small c.try_reclaim.ensures.attempts c.try_reclaim.ensures.keeps c.try_reclaim.ensures.usage c.newer-next.result c.in-Some-frame.frame c.in-Some-frame.ensures.0

@@ -1,4 +1,4 @@
-use Rattle.std.proofs.Common.{◌≡◌, ◌∙◌, ap, rules, subst}
+use Rattle.std.proofs.Common.{◌≡◌, ◌∙◌, ap, arith, rules, subst}
 use Rattle.std.specs.Prelude.{slice_index}
 use Rattle.group_tree.specs.Groups.{AreGroups}
 use Rattle.group_charge.specs.Charges.{Ledger}
@@ -12,9 +12,9 @@ loop-number-init g c = gives_none c.args.machine.now c.args.target
 pub loop-number-preserved : goal.loop-number-preserved
 loop-number-preserved g c =
     let same : c.in-Some.group ≡ c.loop-number.number = search rules in
-    gives_more _ _ _ _ _ c.loop-number.invariant c.loop-number-test.true (c.may_give.ensures ∙ ap (may_give c.args.machine.now c.args.target) same)
+    gives_more _ _ _ _ _ c.loop-number.invariant (omega (arith, c.loop-number-test.true, c.room-room.ensures.few)) (c.may_give.ensures ∙ ap (may_give c.args.machine.now c.args.target) same)
 
 pub returns-clause-available : goal.returns-clause-available
 returns-clause-available g c =
     let facts = subst (λ (l : Ledger). AreGroups l.groups) c.charges.ensures c.prove_charges.ensures.legal.groups in
-    ap slice_index c.new.ensures.available ∙ gives_all _ _ _ _ facts c.loop-number-test.false c.loop-number.invariant
+    ap slice_index c.new.ensures.available ∙ gives_all _ _ _ _ facts (omega (arith, c.loop-number-test.false, c.room-room.ensures.groups)) c.loop-number.invariant

@@ -1,4 +1,4 @@
-use Rattle.std.proofs.Common.{◌≡◌, ◌+◌, ℕ, sym, ap, ◌∙◌, subst, rules}
+use Rattle.std.proofs.Common.{◌≡◌, ◌+◌, ℕ, sym, ap, ◌∙◌, subst, arith, rules}
 use Rattle.mem_reclaim.specs.Victim.{may_be_killed}
 use Rattle.mem_reclaim.proofs.Alive.{AliveTo, alive_all, alive_counted, alive_none, alive_skipped}
 use Rattle.mem_reclaim.proofs.victims.count_alive.Goals as goal
@@ -24,4 +24,5 @@ loop-number-preserved g c =
     ]
 
 pub returns : goal.returns
-returns g c = alive_all c.args.machine.now c.args.group c.loop-number.number c.loop-number.count c.loop-number.invariant (search rules)
+returns g c = alive_all c.args.machine.now c.args.group c.loop-number.number c.loop-number.count c.loop-number.invariant
+    (omega (arith, c.loop-number.auto.number-end, c.room-number-end.ensures.groups))

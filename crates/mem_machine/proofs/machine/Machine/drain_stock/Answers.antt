@@ -1,9 +1,10 @@
-use Rattle.std.proofs.Common.{◌≡◌, Some, None, refl, sym, ap, ◌∙◌, arith, rules}
+use Rattle.std.proofs.Common.{◌≡◌, Some, None, refl, sym, ◌∙◌, arith, rules}
 use Rattle.step_rules.specs.declared.step.Action.TheVariants.{DrainStock}
 use Rattle.mem_machine.specs.{machine_of, stock_group}
 use Rattle.mem_machine.proofs.AtTable.{made_at, may_at}
-use Rattle.mem_machine.proofs.Drained.{drained_now, drained_sound, emptied_sound, knows_drain, no_group_none, noted_none, noted_some, sum_within, there_now, ungrant_may}
+use Rattle.mem_machine.proofs.Drained.{drained_consistent, drained_entry, drained_now, drained_sums, emptied_sound, knows_drain, no_group_none, noted_none, noted_some, owners_then, sum_within, there_now, ungrant_may}
 use Rattle.mem_machine.proofs.Draining.{drain_may, drained_none}
+use Rattle.mem_machine.proofs.Entries.{entry_read}
 use Rattle.mem_machine.proofs.Made.{held_here}
 use Rattle.mem_machine.proofs.Noted.{legal_step}
 use Rattle.mem_machine.proofs.Owning.{owner_at}
@@ -27,13 +28,25 @@ unreachable-requires g c =
     let some = c.if-pages-gt0.true in
     absurd (omega (arith, no_page, some))
 
-pub overflow_sub-self : goal.overflow_sub-self
-overflow_sub-self g c =
+pub index_mut-requires : goal.index_mut-requires
+index_mut-requires g c =
     let t = g.N.BootName.table in
     let m = machine_of c.self.inside in
     let knows = knows_drain t _ c.args.tables.now.words_are m _ c.self.view_is c.requires.held c.args.cpu _ c.requires.cpu _ c.drain-pages.ensures in
     let owner : stock_group t m c.args.cpu ≡ Some c.in-Some.group = owner_at t.cpus _ _ c.self.invariant.owners c.args.cpu c.requires.cpu.0 c.requires.cpu.1 ∙ sym c.group.ensures ∙ c.in-Some.is in
-    sum_within t m c.self.invariant.consistent c.args.cpu _ knows _ c.self.invariant.sums c.number.result (owner ∙ ap Some (sym c.number.ensures.value)) c.number.ensures.below
+    let inside = drained_entry t c.self.inside c.self.invariant c.args.cpu _ knows c.in-Some.group owner c.if-pages-gt0.true in
+    omega (arith, inside, c.number.ensures.value)
+
+pub overflow_sub-index_mut : goal.overflow_sub-index_mut
+overflow_sub-index_mut g c =
+    let t = g.N.BootName.table in
+    let m = machine_of c.self.inside in
+    let knows = knows_drain t _ c.args.tables.now.words_are m _ c.self.view_is c.requires.held c.args.cpu _ c.requires.cpu _ c.drain-pages.ensures in
+    let owner : stock_group t m c.args.cpu ≡ Some c.in-Some.group = owner_at t.cpus _ _ c.self.invariant.owners c.args.cpu c.requires.cpu.0 c.requires.cpu.1 ∙ sym c.group.ensures ∙ c.in-Some.is in
+    let within = sum_within t m c.self.invariant.consistent c.args.cpu _ knows _ c.self.invariant.sums c.in-Some.group owner in
+    let inside = drained_entry t c.self.inside c.self.invariant c.args.cpu _ knows c.in-Some.group owner c.if-pages-gt0.true in
+    let read = entry_read _ _ _ _ c.number.ensures.value inside c.index_mut.ensures.value in
+    omega (arith, within, read)
 
 pub uncharge-requires : goal.uncharge-requires
 uncharge-requires g c =
@@ -60,7 +73,13 @@ invariant_of-self g c =
     let knows = knows_drain t _ c.args.tables.now.words_are m _ c.self.view_is c.requires.held c.args.cpu _ c.requires.cpu _ c.drain-pages.ensures in
     let owner : stock_group t m c.args.cpu ≡ Some c.in-Some.group = owner_at t.cpus _ _ c.self.invariant.owners c.args.cpu c.requires.cpu.0 c.requires.cpu.1 ∙ sym c.group.ensures ∙ c.in-Some.is in
     let noted = noted_some t _ c.args.tables.now.words_are m.run c.args.cpu _ c.in-Some.group c.if-pages-gt0.true _ _ c.drain-pages.ensures (c.take.ensures _ _ (search rules)) _ (c.make_step.ensures.notes _ _ (search rules)) in
-    drained_sound t c.self.inside c.self.invariant c.args.cpu _ knows c.in-Some.group owner c.number.result c.number.ensures.value c.number.ensures.below _ noted _ c.uncharge.ensures.uncharged
+    record {
+      consistent = drained_consistent t m c.self.invariant.consistent c.args.cpu _ knows (Some c.in-Some.group) owner _ noted _ c.uncharge.ensures.uncharged;
+      free = c.self.invariant.free;
+      clean = c.self.invariant.clean;
+      sums = drained_sums t c.self.inside c.self.invariant c.args.cpu _ knows c.in-Some.group owner c.if-pages-gt0.true _ _ c.number.ensures.value c.index_mut.ensures.value _ noted;
+      owners = owners_then t m c.self.invariant.consistent c.args.cpu _ knows (Some c.in-Some.group) owner _ noted _ c.self.invariant.owners;
+    }
 
 pub invariant_of-self-else-pages-gt0 : goal.invariant_of-self-else-pages-gt0
 invariant_of-self-else-pages-gt0 g c =

@@ -1,8 +1,7 @@
-use Rattle.std.proofs.Common.{◌<◌, rules, sym}
-use Rattle.group_tree.specs.Bounds.{most_groups}
+use Rattle.std.proofs.Common.{sym}
 use Rattle.mem_machine.specs.Kept.{machine_of}
 use Rattle.mem_machine.proofs.Clean.{clean_after_free}
-use Rattle.mem_machine.proofs.Fresh.{collect_legal, drop_all, drop_charged, drop_in_use, dropped_notes, may_return, none_reported_here, sum_some, unit_inside}
+use Rattle.mem_machine.proofs.Fresh.{collect_legal, drop_all, drop_charged, drop_in_use, dropped_notes, has_room, may_return, none_reported_here, sum_some, unit_inside}
 use Rattle.mem_machine.proofs.Made.{visits_here}
 use Rattle.mem_machine.proofs.machine.Machine.drop_one.Goals as goal
 
@@ -10,7 +9,6 @@ pub collect_fresh-frame-requires : goal.collect_fresh-frame-requires
 collect_fresh-frame-requires g c =
     let t = g.N.BootName.table in
     let m = machine_of c.self.inside in
-    let fits : c.args.group < most_groups = search rules in
     let visit = visits_here t m _ c.self.view_is c.args.cpu.now c.requires.visit in
     record {
       held = visit.held;
@@ -18,8 +16,7 @@ collect_fresh-frame-requires g c =
       absorbed = none_reported_here t m _ c.self.view_is c.args.cpu.now c.requires.visit c.self.invariant.consistent c.args.group c.requires.group;
       legal = collect_legal t m _ c.self.view_is c.args.cpu.now c.requires.visit c.self.invariant.consistent c.args.group c.requires.group;
       fresh = c.requires.fresh;
-      booked = sum_some t m _ c.self.view_is c.args.cpu.now c.requires.visit c.self.invariant.consistent c.args.group c.requires.group _ c.self.invariant.sums fits
-          c.requires.fresh;
+      booked = sum_some t m _ c.self.view_is c.args.cpu.now c.requires.visit c.self.invariant.consistent c.args.group c.requires.group _ c.self.invariant.sums c.requires.fresh;
     }
 
 pub return_unit-requires : goal.return_unit-requires
@@ -44,7 +41,8 @@ return_unit-requires g c =
 pub invariant_of-self : goal.invariant_of-self
 invariant_of-self g c =
     let t = g.N.BootName.table in
-    let fits : c.args.group < most_groups = search rules in
+    let fits = has_room g.N.BootName.table (machine_of c.self.inside) _ c.self.view_is c.args.cpu.now c.requires.visit c.self.invariant.consistent c.args.group c.requires.group _
+    c.self.invariant.sums c.requires.fresh in
     let e = c.collect_fresh-frame.ensures in
     let u = c.return_unit.ensures in
     let notes = dropped_notes t (machine_of c.self.inside) _ c.self.view_is c.args.cpu.now c.requires.visit c.self.invariant.consistent c.args.group c.requires.group
@@ -57,7 +55,8 @@ invariant_of-self g c =
 pub returns : goal.returns
 returns g c =
     let t = g.N.BootName.table in
-    let fits : c.args.group < most_groups = search rules in
+    let fits = has_room g.N.BootName.table (machine_of c.self.inside) _ c.self.view_is c.args.cpu.now c.requires.visit c.self.invariant.consistent c.args.group c.requires.group _
+    c.self.invariant.sums c.requires.fresh in
     let e = c.collect_fresh-frame.ensures in
     let u = c.return_unit.ensures in
     let notes = dropped_notes t (machine_of c.self.inside) _ c.self.view_is c.args.cpu.now c.requires.visit c.self.invariant.consistent c.args.group c.requires.group

@@ -71,14 +71,14 @@ invariant_of-self-2 g c =
     (notes_of_zone t m.run _ c.args.head _ c.number-frame.ensures (λ x. Freeze x 1) Done
     (made_at _ _ c.args.tables.now.words_are 0 refl _ _ _ _ c.if-not-freeze.ensures) (c.take-2.ensures _ _ (search rules))) _ c.return_unit.ensures.notes in
     let all = evicted_all t m _ c.self.view_is c.self.invariant.consistent c.args.head _ c.requires.frame c.number-frame.ensures c.requires.kept c.requires.held _ _
-    c.leave_list.ensures.leaves c.leave_list.ensures.lists.stand c.leave_list.ensures.frames c.leave_list.ensures.lists.groups c.in-Head.unit head _ _ _ _ _ _ _ _
+    c.leave_list.ensures.leaves c.leave_list.ensures.lists c.leave_list.ensures.frames c.leave_list.ensures.groups c.in-Head.unit head _ _ _ _ _ _ _ _
     c.note_unit.ensures c.self.invariant.free c.return_unit.ensures.frame_states c.return_unit.ensures.frames c.return_unit.ensures.areas c.return_unit.ensures.charges
     c.return_unit.ensures.usage c.with_freeze-self-inside.ensures c.frames-pages.ensures.frames _ noted in
     let held = held_here t m _ c.self.view_is c.requires.held in
     record {
       consistent = all.consistent;
       free = all.free_is;
-      clean = clean_after_free t _ all.consistent _ _ _ _ c.return_unit.ensures.frame_states (subst (AreCleanCounts _ _) (sym c.leave_list.ensures.clean)
+      clean = clean_after_free t _ all.consistent _ _ _ _ c.return_unit.ensures.frame_states (subst (AreCleanCounts _ _ _) (sym c.leave_list.ensures.clean)
           (clean_left_here t m _ c.self.view_is c.self.invariant.consistent c.args.head _ c.requires.frame c.number-frame.ensures c.requires.kept c.in-Head.unit head _
           c.self.invariant.clean _ _ c.leave_list.ensures.leaves));
       sums = sums_stay t m held (evict_steps c.args.head (Some 1)) _ noted (same_books _ _ refl) _ c.self.invariant.sums;
@@ -94,7 +94,7 @@ returns g c =
     (notes_of_zone t m.run _ c.args.head _ c.number-frame.ensures (λ x. Freeze x 1) Done
     (made_at _ _ c.args.tables.now.words_are 0 refl _ _ _ _ c.if-not-freeze.ensures) (c.take-2.ensures _ _ (search rules))) _ c.return_unit.ensures.notes in
     let all = evicted_all t m _ c.self.view_is c.self.invariant.consistent c.args.head _ c.requires.frame c.number-frame.ensures c.requires.kept c.requires.held _ _
-    c.leave_list.ensures.leaves c.leave_list.ensures.lists.stand c.leave_list.ensures.frames c.leave_list.ensures.lists.groups c.in-Head.unit head _ _ _ _ _ _ _ _
+    c.leave_list.ensures.leaves c.leave_list.ensures.lists c.leave_list.ensures.frames c.leave_list.ensures.groups c.in-Head.unit head _ _ _ _ _ _ _ _
     c.note_unit.ensures c.self.invariant.free c.return_unit.ensures.frame_states c.return_unit.ensures.frames c.return_unit.ensures.areas c.return_unit.ensures.charges
     c.return_unit.ensures.usage c.with_freeze-self-inside.ensures c.frames-pages.ensures.frames _ noted in
     record { evicts = all.evicts; visit = all.visit; steps = all.steps }

@@ -9,7 +9,7 @@ use Rattle.step_rules.specs.Laws.{IsLocalStep}
 use Rattle.boot_words.specs.Tables.{KnownTable}
 use Rattle.mem_machine.specs.{machine_of, local_of, KnownMachine}
 use Rattle.mem_machine.proofs.Noted.{legal_step}
-use Rattle.mem_machine.proofs.Prepaying.{fill_fits, fill_leads, fill_may, fill_noted, filled_now, filled_sound, filler_is, knows_fill, nothing_booked, refused_may, refused_now, refused_sound, refused_visits}
+use Rattle.mem_machine.proofs.Prepaying.{fill_entry, fill_fits, fill_leads, fill_may, fill_noted, filled_now, filler_is, knows_fill, nothing_booked, refused_may, refused_now, refused_sound, refused_visits, sound_consistent, sound_owners, sound_sums}
 use Rattle.mem_machine.proofs.machine.Machine.fill_stock.Goals as goal
 
 pub try_charge-requires-clause-there : goal.try_charge-requires-clause-there
@@ -113,8 +113,8 @@ fill-requires-clause-legal g c =
     ((fill_may t m cpu ok facts knows.visit c.requires.none_fresh knows.drained c.args.group c.args.pages knows.there knows.alive (c.in_default.ensures.granted.0 refl)).1
     _ (c.make_step-2.ensures.run _ _ (search rules))).0.legal
 
-pub overflow_add-self : goal.overflow_add-self
-overflow_add-self g c =
+pub overflow_add-index_mut : goal.overflow_add-index_mut
+overflow_add-index_mut g c =
     let t = g.N.BootName.table in
     let m = machine_of c.self.inside in
     let cpu = c.args.cpu.now in
@@ -122,7 +122,7 @@ overflow_add-self g c =
     let ok = c.self.invariant.consistent in
     let facts = c.prove_charges.ensures.legal in
     let fits = fill_fits t c.self.inside c.self.invariant cpu c.args.group c.args.pages facts knows c.requires.none_fresh _ c.self.view_is c.requires.charges.fits
-    c.number-owner.result c.number-owner.ensures.value c.number-owner.ensures.below in
+    c.number-owner.result _ c.number-owner.ensures.value c.index_mut.ensures.value in
     omega (arith, fits)
 
 pub set-requires : goal.set-requires
@@ -147,8 +147,22 @@ invariant_of-self-2 g c =
     let facts = c.prove_charges.ensures.legal in
     let noted = fill_noted t _ c.args.tables.now.words_are m.run cpu.number c.args.group c.args.pages _ _ c.number-cpu_number.ensures.number c.number-owner.ensures.value _
     (c.make_step-2.ensures.notes _ _ (search rules)) _ _ c.fill.ensures (c.take.ensures _ _ (search rules)) in
-    filled_sound t c.self.inside c.self.invariant cpu c.args.group c.args.pages facts knows c.requires.none_fresh (c.in_default.ensures.granted.0 refl) _ noted c.requires.pages.1
-    c.number-owner.result c.number-owner.ensures.value c.number-owner.ensures.below _ c.number-cpu_number.ensures.number _ c.in_default.ensures.charged _ c.set.ensures
+    let has = c.in_default.ensures.granted.0 refl in
+    record {
+      consistent = sound_consistent t c.self.inside c.self.invariant cpu c.args.group c.args.pages facts knows c.requires.none_fresh has _ noted c.requires.pages.1 _ c.in_default.ensures.charged;
+      free = c.self.invariant.free;
+      clean = c.self.invariant.clean;
+      sums = sound_sums t c.self.inside c.self.invariant cpu c.args.group c.args.pages facts knows c.requires.none_fresh has _ noted c.number-owner.result _ c.number-owner.ensures.value
+          c.index_mut.ensures.value;
+      owners = sound_owners t c.self.inside c.self.invariant cpu c.args.group c.args.pages facts knows c.requires.none_fresh has _ noted _ c.number-cpu_number.ensures.number _ c.set.ensures;
+    }
+
+pub index_mut-requires : goal.index_mut-requires
+index_mut-requires g c =
+    let m = machine_of c.self.inside in
+    let knows = knows_fill g.N.BootName.table m _ c.self.view_is c.args.cpu.now c.args.group c.args.pages c.requires.visit c.requires.charges c.requires.drained in
+    let inside = fill_entry g.N.BootName.table c.self.inside c.self.invariant c.args.cpu.now c.args.group c.args.pages c.prove_charges.ensures.legal knows c.requires.none_fresh in
+    omega (arith, inside, c.number-owner.ensures.value)
 
 pub returns-clause-fills : goal.returns-clause-fills
 returns-clause-fills g c =

@@ -39,12 +39,12 @@ invariant_of-self g c =
     let made = made_at _ _ c.args.tables.now.words_are 0 refl _ _ _ _ c.in-Left.ensures in
     let noted = notes_of_zone t m.run _ c.args.head _ c.number-at.ensures (λ x. Put x) (answer.Left c.in-Left.left) made (c.take.ensures _ _ (search rules)) in
     let all = left_all t m _ c.self.view_is c.self.invariant.consistent c.args.head _ c.requires.frame c.number-at.ensures c.requires.kept c.requires.held _ _
-    c.leave_list.ensures.leaves c.leave_list.ensures.lists.stand c.leave_list.ensures.frames c.leave_list.ensures.lists.groups c.in-Left.left
+    c.leave_list.ensures.leaves c.leave_list.ensures.lists c.leave_list.ensures.frames c.leave_list.ensures.groups c.in-Left.left
     (left_few t m.run.past _ c.args.head _ held made).0 _ noted _ c.self.invariant.free in
     record {
       consistent = all.consistent;
       free = all.free_is;
-      clean = subst (AreCleanCounts _ _) (sym c.leave_list.ensures.clean)
+      clean = subst (AreCleanCounts _ _ _) (sym c.leave_list.ensures.clean)
           (clean_left_here t m _ c.self.view_is c.self.invariant.consistent c.args.head _ c.requires.frame c.number-at.ensures c.requires.kept c.in-Head.unit
           (read_head t m c.self.invariant.consistent c.args.head _ c.requires.frame c.number-at.ensures _ c.in-Head.unit c.index.ensures c.in-Head.is) _
           c.self.invariant.clean _ _ c.leave_list.ensures.leaves);
@@ -60,7 +60,7 @@ returns-in-Left g c =
     let made = made_at _ _ c.args.tables.now.words_are 0 refl _ _ _ _ c.in-Left.ensures in
     let noted = notes_of_zone t m.run _ c.args.head _ c.number-at.ensures (λ x. Put x) (answer.Left c.in-Left.left) made (c.take.ensures _ _ (search rules)) in
     let all = left_all t m _ c.self.view_is c.self.invariant.consistent c.args.head _ c.requires.frame c.number-at.ensures c.requires.kept c.requires.held _ _
-    c.leave_list.ensures.leaves c.leave_list.ensures.lists.stand c.leave_list.ensures.frames c.leave_list.ensures.lists.groups c.in-Left.left
+    c.leave_list.ensures.leaves c.leave_list.ensures.lists c.leave_list.ensures.frames c.leave_list.ensures.groups c.in-Left.left
     (left_few t m.run.past _ c.args.head _ held made).0 _ noted _ c.self.invariant.free in
     record { releases = all.releases; visit = all.visit; steps = all.steps }
 
@@ -87,14 +87,14 @@ invariant_of-self-in-Last g c =
     (notes_of_zone t m.run _ c.args.head _ c.number-at.ensures (λ x. Put x) answer.Last
     (made_at _ _ c.args.tables.now.words_are 0 refl _ _ _ _ c.in-Last.ensures) (c.take-in-Last.ensures _ _ (search rules))) _ c.return_unit.ensures.notes in
     let all = returned_all t m _ c.self.view_is c.self.invariant.consistent c.args.head _ c.requires.frame c.number-at.ensures c.requires.kept c.requires.held _ _
-    c.leave_list.ensures.leaves c.leave_list.ensures.lists.stand c.leave_list.ensures.frames c.leave_list.ensures.lists.groups c.in-Head.unit head _ _ _ _ _ _
+    c.leave_list.ensures.leaves c.leave_list.ensures.lists c.leave_list.ensures.frames c.leave_list.ensures.groups c.in-Head.unit head _ _ _ _ _ _
     c.self.invariant.free c.return_unit.ensures.frame_states c.return_unit.ensures.frames c.return_unit.ensures.areas c.return_unit.ensures.charges
     c.with_last_put-self-inside.ensures _ noted in
     let held = held_here t m _ c.self.view_is c.requires.held in
     record {
       consistent = all.consistent;
       free = all.free_is;
-      clean = clean_after_free t _ all.consistent _ _ _ _ c.return_unit.ensures.frame_states (subst (AreCleanCounts _ _) (sym c.leave_list.ensures.clean)
+      clean = clean_after_free t _ all.consistent _ _ _ _ c.return_unit.ensures.frame_states (subst (AreCleanCounts _ _ _) (sym c.leave_list.ensures.clean)
           (clean_left_here t m _ c.self.view_is c.self.invariant.consistent c.args.head _ c.requires.frame c.number-at.ensures c.requires.kept c.in-Head.unit head _
           c.self.invariant.clean _ _ c.leave_list.ensures.leaves));
       sums = sums_stay t m held (release_steps c.args.head Returned) _ noted (same_books _ _ refl) _ c.self.invariant.sums;
@@ -110,7 +110,7 @@ returns-in-Last g c =
     (notes_of_zone t m.run _ c.args.head _ c.number-at.ensures (λ x. Put x) answer.Last
     (made_at _ _ c.args.tables.now.words_are 0 refl _ _ _ _ c.in-Last.ensures) (c.take-in-Last.ensures _ _ (search rules))) _ c.return_unit.ensures.notes in
     let all = returned_all t m _ c.self.view_is c.self.invariant.consistent c.args.head _ c.requires.frame c.number-at.ensures c.requires.kept c.requires.held _ _
-    c.leave_list.ensures.leaves c.leave_list.ensures.lists.stand c.leave_list.ensures.frames c.leave_list.ensures.lists.groups c.in-Head.unit head _ _ _ _ _ _
+    c.leave_list.ensures.leaves c.leave_list.ensures.lists c.leave_list.ensures.frames c.leave_list.ensures.groups c.in-Head.unit head _ _ _ _ _ _
     c.self.invariant.free c.return_unit.ensures.frame_states c.return_unit.ensures.frames c.return_unit.ensures.areas c.return_unit.ensures.charges
     c.with_last_put-self-inside.ensures _ noted in
     record { releases = all.releases; visit = all.visit; steps = all.steps }

@@ -8,12 +8,18 @@ use Rattle.mem_machine.proofs.machine.Machine.set_dirty.Goals as goal
 pub unreachable-requires : goal.unreachable-requires
 unreachable-requires g c = has_home _ _ c.self.view_is c.args.head _ c.number-at.ensures c.requires.kept c.in_default.ensures
 
-pub count_dirt-requires-clause-room : goal.count_dirt-requires-clause-room
-count_dirt-requires-clause-room g c =
+pub count_dirt-requires-clause-few : goal.count_dirt-requires-clause-few
+count_dirt-requires-clause-few g c =
+    let head = read_head g.N.BootName.table _ c.self.invariant.consistent c.args.head _ c.requires.frame c.number-at.ensures _ c.in-Head.unit c.index.ensures c.in-Head.is in
+    let few = clean_room g.N.BootName.table _ c.self.invariant.consistent _ c.self.invariant.clean c.in-Head.unit.group in
+    omega (arith, few, c.frames-frames.ensures)
+
+pub count_dirt-requires-clause-count : goal.count_dirt-requires-clause-count
+count_dirt-requires-clause-count g c =
     let head = read_head g.N.BootName.table _ c.self.invariant.consistent c.args.head _ c.requires.frame c.number-at.ensures _ c.in-Head.unit c.index.ensures c.in-Head.is in
     let low = listed_group g.N.BootName.table _ _ c.self.view_is c.self.invariant.consistent c.args.head _ c.requires.frame c.number-at.ensures c.requires.kept c.in-Head.unit head in
-    let room = clean_room g.N.BootName.table _ c.self.invariant.consistent _ c.self.invariant.clean c.in-Head.unit.group low in
-    omega (arith, room, c.frames-frames.ensures)
+    let sized = c.self.invariant.clean.size in
+    omega (arith, low, sized)
 
 pub count_dirt-requires-clause-counted : goal.count_dirt-requires-clause-counted
 count_dirt-requires-clause-counted g c = λ clean.
@@ -28,7 +34,7 @@ invariant_of-self g c = record {
       c.others_stay_linked.ensures
       c.one_of_all_changes.ensures).consistent;
   free = c.self.invariant.free;
-  clean = subst (AreCleanCounts _ _) (sym c.count_dirt.ensures)
+  clean = subst (AreCleanCounts _ _ _) (sym c.count_dirt.ensures)
       (clean_marked_here g.N.BootName.table _ _ c.self.view_is c.self.invariant.consistent c.args.head _ c.requires.frame c.number-at.ensures c.requires.kept c.in-Head.unit
       (read_head g.N.BootName.table _ c.self.invariant.consistent c.args.head _ c.requires.frame c.number-at.ensures _ c.in-Head.unit c.index.ensures c.in-Head.is)
       _ c.self.invariant.clean _ c.set_dirty.ensures.used c.set_dirty.ensures.home _ _ c.is_dirty-was_dirty.ensures c.set_dirty.ensures.dirt);

@@ -20,7 +20,7 @@ invariant_of-self g c =
     let all = grouped g.N.BootName.table (machine_of c.self.inside) c.self.invariant.consistent (held_here g.N.BootName.table (machine_of c.self.inside) _ c.self.view_is c.requires.held) _ _ _
     (sets_oom_group g.N.BootName.table (machine_of c.self.inside) _ c.self.view_is c.self.invariant.consistent c.requires.held c.args.group c.requires.there c.args.oom_group
     c.requires.below_root _ c.set_oom_group.ensures.flagged)
-    c.set_oom_group.ensures.pages c.self.invariant.consistent.sizes.killed _ (c.make_step.ensures.notes _ _ (search rules)) _ refl in
+    c.set_oom_group.ensures.pages refl _ (c.make_step.ensures.notes _ _ (search rules)) _ refl in
     record { consistent = all.consistent; free = c.self.invariant.free; clean = c.self.invariant.clean; sums = all.sums _ c.self.invariant.sums; owners = all.owners _ c.self.invariant.owners }
 
 pub returns-clause-steps : goal.returns-clause-steps
@@ -28,14 +28,14 @@ returns-clause-steps g c =
     (grouped g.N.BootName.table (machine_of c.self.inside) c.self.invariant.consistent (held_here g.N.BootName.table (machine_of c.self.inside) _ c.self.view_is c.requires.held) _ _ _
     (sets_oom_group g.N.BootName.table (machine_of c.self.inside) _ c.self.view_is c.self.invariant.consistent c.requires.held c.args.group c.requires.there c.args.oom_group
     c.requires.below_root _ c.set_oom_group.ensures.flagged)
-    c.set_oom_group.ensures.pages c.self.invariant.consistent.sizes.killed _ (c.make_step.ensures.notes _ _ (search rules)) _ c.self.view_is).steps
+    c.set_oom_group.ensures.pages refl _ (c.make_step.ensures.notes _ _ (search rules)) _ c.self.view_is).steps
 
 pub returns-clause-visit : goal.returns-clause-visit
 returns-clause-visit g c =
     (grouped g.N.BootName.table (machine_of c.self.inside) c.self.invariant.consistent (held_here g.N.BootName.table (machine_of c.self.inside) _ c.self.view_is c.requires.held) _ _ _
     (sets_oom_group g.N.BootName.table (machine_of c.self.inside) _ c.self.view_is c.self.invariant.consistent c.requires.held c.args.group c.requires.there c.args.oom_group
     c.requires.below_root _ c.set_oom_group.ensures.flagged)
-    c.set_oom_group.ensures.pages c.self.invariant.consistent.sizes.killed _ (c.make_step.ensures.notes _ _ (search rules)) _ c.self.view_is).visit
+    c.set_oom_group.ensures.pages refl _ (c.make_step.ensures.notes _ _ (search rules)) _ c.self.view_is).visit
 
 pub returns-clause-machine : goal.returns-clause-machine
 returns-clause-machine g c = ledger_is _ _ c.self.view_is (λ (l : Ledger). with_oom_flag l c.args.group c.args.oom_group) _ c.set_oom_group.ensures.flagged _

@@ -1,5 +1,4 @@
 use Rattle.std.proofs.Common.{ℕ, ◌≤◌, ◌<◌, ◌^◌, ap, refl, sym, subst, ◌∙◌, rules, arith, IsTrue, ◌+◌}
-use Rattle.group_tree.specs.Bounds.{most_groups}
 use Rattle.group_tree.specs.{has_group, IsLowestOver}
 use Rattle.group_charge.specs.Charges.{current_of}
 use Rattle.zone_blocks.specs.Zone.{BuddyZone}
@@ -8,7 +7,7 @@ use Rattle.step_rules.specs.declared.step.Answer.TheVariants.{Over}
 use Rattle.step_rules.specs.After.{zone_makes}
 use Rattle.mem_machine.specs.{AreCleanCounts, clean_joined, machine_of, KnownMachine, Records, over_steps, taken_steps, unplaced_steps}
 use Rattle.mem_machine.proofs.Clean.{clean_placed, clean_room}
-use Rattle.mem_machine.proofs.GroupSteps.{may_group}
+use Rattle.mem_machine.proofs.GroupSteps.{may_group, there_inside}
 use Rattle.mem_machine.proofs.Made.{held_here}
 use Rattle.mem_machine.proofs.Noted.{legal_step}
 use Rattle.mem_machine.proofs.Staying.{owners_stay, sums_stay}
@@ -99,6 +98,7 @@ returns-in_default-take g c =
 
 -- ---- a block
 
+
 pub unreachable-requires : goal.unreachable-requires
 unreachable-requires g c =
     let past : g.N.BootName.table.frames ≤ c.in-Some.block.at = search rules in
@@ -110,10 +110,21 @@ pub place_unit-requires : goal.place_unit-requires
 place_unit-requires g c =
     (taken_inside _ _ c.self.invariant.consistent.areas _ _ c.self.invariant.free _ c.in-Some.block c.in-Some.ensures.taken c.in-Some.ensures.frames).inside
 
-pub join_list-requires-clause-room : goal.join_list-requires-clause-room
-join_list-requires-clause-room g c =
-    let fits : c.args.group < most_groups = search rules in
-    clean_room g.N.BootName.table (machine_of c.self.inside) c.self.invariant.consistent _ c.self.invariant.clean c.args.group fits
+pub join_list-requires-clause-few : goal.join_list-requires-clause-few
+join_list-requires-clause-few g c =
+    clean_room g.N.BootName.table (machine_of c.self.inside) c.self.invariant.consistent _ c.self.invariant.clean c.args.group
+
+pub join_list-requires-clause-list : goal.join_list-requires-clause-list
+join_list-requires-clause-list g c =
+    let low = there_inside g.N.BootName.table (machine_of c.self.inside) _ c.self.view_is c.self.invariant.consistent c.prove_charges.ensures.legal c.args.group c.requires.charges.there in
+    let sizes = c.self.invariant.consistent.sizes in
+    omega (arith, low, sizes.killed, sizes.lists)
+
+pub join_list-requires-clause-count : goal.join_list-requires-clause-count
+join_list-requires-clause-count g c =
+    let low = there_inside g.N.BootName.table (machine_of c.self.inside) _ c.self.view_is c.self.invariant.consistent c.prove_charges.ensures.legal c.args.group c.requires.charges.there in
+    let sized = c.self.invariant.clean.size in
+    omega (arith, low, sized)
 
 pub join_list-requires-clause-away : goal.join_list-requires-clause-away
 join_list-requires-clause-away g c =
@@ -138,22 +149,21 @@ pub invariant_of-self-2 : goal.invariant_of-self-2
 invariant_of-self-2 g c =
     let t = g.N.BootName.table in
     let m = machine_of c.self.inside in
-    let fits : c.args.group < most_groups = search rules in
     let j = c.join_list.ensures in
     let noted = taken_notes t _ _ _ _ c.args.group c.args.order _ c.in-Some-frame.head c.in-Some.block c.frames-pages.ensures.frames c.in-Some-frame.ensures.0
     c.in-Some.ensures.taken.order_is (c.make_step-2.ensures.notes _ _ (search rules)) (c.make_step-3.ensures.notes _ _ (search rules)) c.publish.ensures in
-    let all = taken_all t m _ c.self.view_is c.self.invariant.consistent c.prove_charges.ensures.legal c.requires.visit.held c.args.group fits c.args.order _
+    let all = taken_all t m _ c.self.view_is c.self.invariant.consistent c.prove_charges.ensures.legal c.requires.visit.held c.args.group c.args.order _
     c.frames-pages.ensures.frames c.requires.charges (c.in_default.ensures.granted.0 refl) _ c.in_default.ensures.charged c.in_default.ensures.pages _ _ c.in-Some.block _
     c.self.invariant.free c.in-Some.ensures.taken c.in-Some.ensures.frames c.in-Some.ensures.areas _ c.place_unit.ensures c.in-Some-frame.head c.in-Some-frame.ensures.0
-    _ _ (record { joins = j.joins; stand = j.lists.stand; frames = j.frames; groups = j.lists.groups }) _ noted in
+    _ _ (record { joins = j.joins; stand = j.lists; frames = j.frames; groups = j.groups }) _ noted in
     let held = held_here t m _ c.self.view_is c.requires.visit.held in
     record {
       consistent = all.consistent;
       free = all.free_is;
-      clean = subst (AreCleanCounts _ _) (sym (j.clean ∙ ap (λ (o : ℕ). clean_joined c.args.group o c.self.inside.clean) (sym c.in-Some.ensures.taken.order_is)))
+      clean = subst (AreCleanCounts _ _ _) (sym (j.clean ∙ ap (λ (o : ℕ). clean_joined c.args.group o c.self.inside.clean.items) (sym c.in-Some.ensures.taken.order_is)))
           (clean_placed t _ all.consistent _ _ _ c.args.group c.in-Some.block _ (head_inside _ _ c.self.invariant.consistent.areas _ _ c.self.invariant.free _ c.in-Some.block c.in-Some.ensures.taken c.in-Some.ensures.frames)
           c.place_unit.ensures j.joins j.used j.dirt (was_away t m c.self.invariant.consistent _ _ c.in-Some.block c.self.invariant.free _ c.in-Some.ensures.taken
-          c.in-Some.ensures.frames) fits c.self.invariant.clean);
+          c.in-Some.ensures.frames) (there_inside t m _ c.self.view_is c.self.invariant.consistent c.prove_charges.ensures.legal c.args.group c.requires.charges.there) c.self.invariant.clean);
       sums = sums_stay t m held (taken_steps c.args.group c.args.order c.in-Some-frame.head) _ noted (same_books _ _ refl) _ c.self.invariant.sums;
       owners = owners_stay t m held (taken_steps c.args.group c.args.order c.in-Some-frame.head) _ noted (same_books _ _ refl) _ c.self.invariant.owners;
     }
@@ -162,12 +172,11 @@ pub returns : goal.returns
 returns g c =
     let t = g.N.BootName.table in
     let m = machine_of c.self.inside in
-    let fits : c.args.group < most_groups = search rules in
     let j = c.join_list.ensures in
-    let all = taken_all t m _ c.self.view_is c.self.invariant.consistent c.prove_charges.ensures.legal c.requires.visit.held c.args.group fits c.args.order _
+    let all = taken_all t m _ c.self.view_is c.self.invariant.consistent c.prove_charges.ensures.legal c.requires.visit.held c.args.group c.args.order _
     c.frames-pages.ensures.frames c.requires.charges (c.in_default.ensures.granted.0 refl) _ c.in_default.ensures.charged c.in_default.ensures.pages _ _ c.in-Some.block _
     c.self.invariant.free c.in-Some.ensures.taken c.in-Some.ensures.frames c.in-Some.ensures.areas _ c.place_unit.ensures c.in-Some-frame.head c.in-Some-frame.ensures.0
-    _ _ (record { joins = j.joins; stand = j.lists.stand; frames = j.frames; groups = j.lists.groups }) _
+    _ _ (record { joins = j.joins; stand = j.lists; frames = j.frames; groups = j.groups }) _
     (taken_notes t _ _ _ _ c.args.group c.args.order _ c.in-Some-frame.head c.in-Some.block c.frames-pages.ensures.frames c.in-Some-frame.ensures.0
     c.in-Some.ensures.taken.order_is (c.make_step-2.ensures.notes _ _ (search rules)) (c.make_step-3.ensures.notes _ _ (search rules)) c.publish.ensures) in
     record { takes = all.takes; refuses = search rules; cpu = search rules; visit = all.visit _ c.requires.visit; steps = all.steps }
