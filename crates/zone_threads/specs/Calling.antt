@@ -4,6 +4,7 @@ use Rattle.std.specs.Prelude.{IsSomeAnd, Some}
 use Rattle.frame_word.specs.declared.answers.Get.{Get}
 use Rattle.frame_word.specs.declared.answers.Get.TheVariants.{Full, Held, Raced, Zero}
 use Rattle.frame_word.specs.declared.answers.Put.{Put}
+use Rattle.zone_blocks.specs.declared.config.Config.{Config}
 use Rattle.group_tree.specs.{has_group, limit_of}
 use Rattle.group_tree.specs.declared.fault.Fault.TheVariants.{BadLimit, BadOrder, NoFile, NotPinned, PinsFull}
 use Rattle.group_charge.specs.Charges.{Ledger, current_of, peak_of, settings_of}
