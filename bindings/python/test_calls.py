@@ -81,6 +81,9 @@ class Calls(unittest.TestCase):
         self.refuses(tempolemon.BadConfig, Zone, 64, 2, 4, 1)
         self.refuses(tempolemon.BadConfig, lambda: Zone(64, 2, reclaim_batch=65))
         self.refuses(tempolemon.BadConfig, lambda: Zone(64, 2, groups=1025))
+        with Zone(64, 1, groups=2) as zone, zone.take(1) as one:
+            one.mkdir("/a")
+            self.refuses(tempolemon.TreeFull, one.mkdir, "/b")
         self.refuses(tempolemon.CpuOut, self.zone.take, 1)
         self.refuses(tempolemon.BadCpu, self.zone.take, 3)
         self.refuses(tempolemon.NoParent, cpu.mkdir, "/a/b")

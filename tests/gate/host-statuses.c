@@ -147,7 +147,7 @@ static void live(void) {
 
 int main(void) {
     tempolemon_sizes low_high = SIZES, no_frames = SIZES, great_batch = SIZES, no_kill = SIZES, two = SIZES, proportional_two = SIZES,
-                     many_groups = SIZES, few_groups = SIZES;
+                     many_groups = SIZES, most_groups = SIZES, few_groups = SIZES;
     low_high.high = 3;
     great_batch.reclaim_batch = 65;
     no_kill.no_kill = 1;
@@ -155,6 +155,7 @@ int main(void) {
     proportional_two.proportional = 2;
     no_frames.frames = 0;
     many_groups.groups = 1025;
+    most_groups.groups = 1024;
     few_groups.groups = 2;
     expect("an exact buffer", SIZES, "1 mkdir /a\n", 8, TEMPOLEMON_DONE, "group 1\n", 8, 0);
     expect("a longer buffer", SIZES, "1 mkdir /a\n", 64, TEMPOLEMON_DONE, "group 1\n", 8, 0);
@@ -168,6 +169,7 @@ int main(void) {
     expect("no_kill of 2", two, "1 mkdir /a\n", 64, TEMPOLEMON_BAD_CONFIG, "", 0, 0);
     expect("proportional of 2", proportional_two, "1 mkdir /a\n", 64, TEMPOLEMON_BAD_CONFIG, "", 0, 0);
     expect("more groups than there may be", many_groups, "1 mkdir /a\n", 64, TEMPOLEMON_BAD_CONFIG, "", 0, 0);
+    expect("the last number of the most groups", most_groups, "1 fast 1023\n", 64, TEMPOLEMON_DONE, "list-empty\n", 11, 0);
     expect("the group after the room", few_groups, "1 fast 1\n1 fast 2\n", 64, TEMPOLEMON_BAD_LINE, "", 0, 2);
     expect("a second group in a room for one", few_groups, "1 mkdir /a\n1 mkdir /b\n", 64, TEMPOLEMON_DONE,
            "group 1\nrefused 4 TreeFull\n", 27, 0);

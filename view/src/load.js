@@ -25,9 +25,19 @@ export function* load(log) {
     if (isOpen) drawn.close(state);
     isOpen = false;
   };
+  /** A step was made, and not answered `illegal`: then its group exists. */
+  const made = action => {
+    if (action === "kill") drawn.mark(KILLS);
+    if (action === "note-oom") limited = { group: reader.a, need: over?.group === reader.a ? over.pages : 0 };
+    if (Object.hasOwn(EVENT_STEPS, action)) drawn.happened(EVENT_STEPS[action], reader.a);
+    if (action === "note-max") drawn.tighten(state.groups[reader.a], over?.pages ?? 0);
+    if (action === "kill")
+      drawn.events.at(-1).choice = follower.isOurs ? follower.choice :
+      limited && state.groups[limited.group] && choiceOf(state, limited.group, limited.need);
+  };
   const seen = {
-    zone(made, its) {
-      [state, reader] = [made, its];
+    zone(its, lines) {
+      [state, reader] = [its, lines];
       follower.zone(state, reader);
       drawn = new Run(state, log);
     },
@@ -70,16 +80,10 @@ export function* load(log) {
     },
     after() {
       const action = ACTIONS[reader.action][0];
-      if (action === "kill") drawn.mark(KILLS);
+      if (reader.answer !== ILLEGAL) made(action);
       if (reader.answer === OVER) over = { group: reader.n, pages: reader.b };
       else if (action === "grant" || action === "limit") over = null;
-      if (action === "note-oom") limited = { group: reader.a, need: over?.group === reader.a ? over.pages : 0 };
       if (reader.answer === MISSED) drawn.missed.push(drawn.lineNumbers.length - 1);
-      if (Object.hasOwn(EVENT_STEPS, action)) drawn.happened(EVENT_STEPS[action], reader.a);
-      if (action === "note-max") drawn.tighten(state.groups[reader.a], over?.pages ?? 0);
-      if (action === "kill")
-        drawn.events.at(-1).choice = follower.isOurs ? follower.choice :
-        limited && state.groups[limited.group] && choiceOf(state, limited.group, limited.need);
       if (action === "lock") drawn.locks[reader.seat].push(drawn.lineNumbers.length - 1);
       if (action === "lock" || !follower.isOurs && reader.seat === 0) drawn.mark(LOCKED);
       if (!follower.isOurs) {

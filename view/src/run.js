@@ -134,7 +134,7 @@ export class Run {
     return this.cells[this.ROWS + group * ROW.length + COL[name]];
   }
   life(group) {
-    const life = this.cells[this.LIFE + group];
+    const life = group < this.mostGroups ? this.cells[this.LIFE + group] : -1;
     return life < 0 ? null : this.lives[life];
   }
   path(group) {

@@ -5,8 +5,17 @@ use std::sync::{Arc, Mutex};
 use std::thread;
 use tempolemon::{Error, Frame, Group, Owner, Released, Sizes, Touched, Zone, PROOF};
 
-const SIZES: Sizes =
-    Sizes { frames: 64, cpus: 2, batch: 4, high: 8, stock: 4, reclaim_batch: 0, no_kill: 0, proportional: 0, groups: 0 };
+const SIZES: Sizes = Sizes {
+    frames: 64,
+    cpus: 2,
+    batch: 4,
+    high: 8,
+    stock: 4,
+    reclaim_batch: 0,
+    no_kill: 0,
+    proportional: 0,
+    groups: 0,
+};
 
 fn boot() -> Zone {
     Zone::boot(&SIZES).unwrap()
@@ -68,6 +77,11 @@ fn refusals_are_errors() {
     assert_eq!(Zone::boot(&Sizes { high: 1, ..SIZES }).err(), Some(Error::BadConfig));
     assert_eq!(Zone::boot(&Sizes { reclaim_batch: 65, ..SIZES }).err(), Some(Error::BadConfig));
     assert_eq!(Zone::boot(&Sizes { groups: 1025, ..SIZES }).err(), Some(Error::BadConfig));
+    let few = Zone::boot(&Sizes { groups: 2, ..SIZES }).unwrap();
+    let one = few.take(1).unwrap();
+    one.mkdir("/a").unwrap();
+    assert_eq!(one.mkdir("/b"), Err(Error::TreeFull));
+    drop(one);
     assert_eq!(zone.take(1).err(), Some(Error::CpuOut));
     assert_eq!(zone.take(3).err(), Some(Error::BadCpu));
     assert_eq!(cpu.mkdir("/a/b"), Err(Error::NoParent));

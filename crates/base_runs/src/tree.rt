@@ -5,7 +5,7 @@ ghost use Rattle.group_tree.specs.Groups.{has_group};
 
 use crate::calls::expect_true;
 use group_tree::fault::Fault;
-use group_tree::group::GroupId;
+use group_tree::group::{GroupId, MAX_GROUPS};
 use group_tree::path::PathText;
 use group_tree::tree::Tree;
 use machine_texts::write_refused;
@@ -115,7 +115,7 @@ fn refusals(group: GroupId) -> [Fault; 22] {
 #[test]
 fn each_refusal_has_its_number_name_and_text(rt: HostRuntime) -> Result<(), Fail> {
     let group = GroupId::of(63).ok_or("no group")?;
-    expect_true(&rt, GroupId::of(64).is_none());
+    expect_true(&rt, GroupId::of(MAX_GROUPS as u32).is_none());
     let mut told = String::new(rt.alloc());
     for fault in refusals(group) {
         let line = format!(in rt.alloc(); "{} {}: {fault}\n", fault.number(), fault.name())?;

@@ -28,7 +28,7 @@ pub record AreWithin (list fresh back pins : ℕ) : Type 0 where
   pub pin_bound : back + pins ≤ most_pins
 
 -- room is reserved for as many frames and pins as there can be
-pub record HasRoom (list fresh back pins : ℕ) : Type 0 where
+pub record HasRoomForPart (list fresh back pins : ℕ) : Type 0 where
   pub list_room : most_listed ≤ list
   pub fresh_room : most_fresh ≤ fresh
   pub back_room : most_pins ≤ back

@@ -1,7 +1,7 @@
 //! A CPU's part, and how it is made.
 ghost use Rattle.std.specs.Prelude.{◌≡◌, ◌≤◌, [], IfOk, vec_capacity};
 ghost use Rattle.std.specs.VecDeque.{deque_capacity};
-ghost use Rattle.cpu_part.specs.Cpus.{HasRoom};
+ghost use Rattle.cpu_part.specs.Cpus.{HasRoomForPart};
 
 use crate::boot_name::BootName;
 use frame_word::Frame;
@@ -44,7 +44,7 @@ impl<N: BootName> Model for CpuLists<N> {
     ghost use Rattle.std.specs.Prelude.{length};
     ghost use Rattle.std.specs.VecDeque.{deque_capacity};
     ghost use Rattle.std.specs.Vec.{vec_capacity};
-    ghost use Rattle.cpu_part.specs.Cpus.{KnownCpuLists, AreWithin, HasRoom};
+    ghost use Rattle.cpu_part.specs.Cpus.{KnownCpuLists, AreWithin, HasRoomForPart};
 
     ghost Value = { KnownCpuLists };
 
@@ -59,7 +59,7 @@ impl<N: BootName> Model for CpuLists<N> {
 
     ghost invariant = { λ c.
         AreWithin (length c.list.items) (length c.fresh.items) (length c.back.items) (length c.pins.items)
-        × HasRoom (deque_capacity c.list) (vec_capacity c.fresh) (deque_capacity c.back) (vec_capacity c.pins) };
+        × HasRoomForPart (deque_capacity c.list) (vec_capacity c.fresh) (deque_capacity c.back) (vec_capacity c.pins) };
 }
 
 // The frames that a CPU has, by their lists.
@@ -75,7 +75,7 @@ struct Frames {
 fn new_frames(alloc: Global) -> Result<Frames, AllocError>
     ensures lists { IfOk result (λ f. (f.list.items ≡ []) × (f.back.items ≡ [])) }
     ensures vecs { IfOk result (λ f. (f.fresh.items ≡ []) × (f.pins.items ≡ [])) }
-    ensures room { IfOk result (λ f. HasRoom (deque_capacity f.list) (vec_capacity f.fresh) (deque_capacity f.back)
+    ensures room { IfOk result (λ f. HasRoomForPart (deque_capacity f.list) (vec_capacity f.fresh) (deque_capacity f.back)
         (vec_capacity f.pins)) }
 {
     let list = VecDeque::with_capacity(alloc, MAX_LISTED)?;

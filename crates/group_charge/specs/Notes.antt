@@ -7,7 +7,7 @@ use Rattle.group_charge.specs.declared.note.Note.TheVariants.{Reclaimed, Spared,
 
 -- how many notes are kept
 abbrev pub most_notes : ℕ
-most_notes = 2112
+most_notes = 4992
 
 -- how many of them may be details
 abbrev pub most_details : ℕ

@@ -10,17 +10,17 @@ use group_tree::group::GroupId;
 use std::alloc::{AllocError, Global};
 use std::marker::Model;
 
-/// How many notes are kept at most. One command makes at most 1,045 that are no details and no rounds of
+/// How many notes are kept at most. One command makes at most 3,925 that are no details and no rounds of
 /// the zone. For each of 8 limits on a path these are the limit, a stock of each of 64 CPUs, 16 rounds and an `oom`; for
-/// each memory.high there, itself and 16 rounds. There is a `Kill` for each of 63 groups, and a victim and a `GroupKill`
-/// each time that the killer chooses, at most 63 times. And the 64 stocks are drained as their groups die. Rounds of the
+/// each memory.high there, itself and 16 rounds. There is a `Kill` for each of 1,023 groups, and a victim and a `GroupKill`
+/// each time that the killer chooses, at most 1,023 times. And the 64 stocks are drained as their groups die. Rounds of the
 /// zone are 16, with one note before them. So all of these fit beside `MAX_DETAILS` details.
-pub const MAX_NOTES: usize = 2_112;
+pub const MAX_NOTES: usize = 4_992;
 
 /// How many of the notes are details at most: spans of freed units, and what protected a group.
 pub const MAX_DETAILS: usize = 1_024;
 
-/// The notes of a visit, the oldest first; at most the first 2,112 of them, and at most the first 1,024 details.
+/// The notes of a visit, the oldest first; at most the first 4,992 of them, and at most the first 1,024 details.
 #[derive(Drop)]
 pub struct Notes {
     // Room for all of them is reserved.
@@ -66,7 +66,7 @@ impl Notes {
         self.notes_details = is_on;
     }
 
-    /// Adds a note, unless there are 2,112.
+    /// Adds a note, unless there are 4,992.
     pub fn note(&mut self, note: Note)
         ensures { self.new ≡ noted self.old note }
     {
@@ -76,14 +76,14 @@ impl Notes {
         }
     }
 
-    // Whether there are fewer than 1,024 details and 2,112 notes.
+    // Whether there are fewer than 1,024 details and 4,992 notes.
     fn has_room_for_detail(&self) -> bool
         ensures { result ≡ has_room_for_detail self.now.list }
     {
         self.details < MAX_DETAILS && self.notes.len() < MAX_NOTES
     }
 
-    /// Adds a detail, if details are noted and there are fewer than 1,024 of them and 2,112 notes.
+    /// Adds a detail, if details are noted and there are fewer than 1,024 of them and 4,992 notes.
     pub fn note_detail(&mut self, note: Note)
         ensures { self.new ≡ detail_noted self.old note }
     {
@@ -95,7 +95,7 @@ impl Notes {
 
     /// Notes that a unit of this group was freed, whose frames are `frames` from `first` on, if freed units are noted.
     /// The unit joins the last note if that is a span of units of the same group which it adjoins. Otherwise it is a
-    /// new span; if there are 1,024 details or 2,112 notes, its frames are counted as left out instead. That count stays
+    /// new span; if there are 1,024 details or 4,992 notes, its frames are counted as left out instead. That count stays
     /// at 2^64 - 1.
     #[inline(always)]
     pub fn note_unit(&mut self, group: GroupId, first: u32, frames: u32)

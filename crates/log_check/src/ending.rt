@@ -7,7 +7,7 @@ ghost use Rattle.mem_core.specs.{state_in, FitsZone, IsBelowBounds};
 ghost use Rattle.log_check.specs.Ends.{IsEnd, holder_in, is_unreferenced};
 
 use crate::verdict::LogEnd;
-use group_tree::group::GroupId;
+use group_tree::group::{GroupId, MAX_GROUPS};
 use mem_core::phases::is_head;
 use mem_core::rows::Rows;
 use step_rules::phase::Hold;
@@ -76,7 +76,7 @@ fn pending(rows: &Rows) -> u128
     ensures { result ≡ sum_to most_groups (state_in rows.now).pending }
 {
     let mut sum = 0u128;
-    for number in 0..64u32 {
+    for number in 0..MAX_GROUPS as u32 {
         sum += pending_for(rows, number);
     }
     sum
@@ -84,7 +84,7 @@ fn pending(rows: &Rows) -> u128
 
 // How many pages are pending for the group of this number.
 fn pending_for(rows: &Rows, number: u32) -> u128
-    requires number { number < 64 }
+    requires number { number < most_groups }
     requires bounded { IsBelowBounds (state_in rows.now) }
     ensures pages { result ≡ (state_in rows.now).pending number }
     ensures few { result ≤ 2 ^ 96 }

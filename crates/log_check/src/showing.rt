@@ -10,7 +10,7 @@ ghost use Rattle.mem_core.specs.declared.conditions.PlaceTest.TheVariants.{Passa
 ghost use Rattle.log_check.specs.declared.reason.Reason.{Reason};
 
 use crate::reason::Reason;
-use group_tree::group::GroupId;
+use group_tree::group::{GroupId, MAX_GROUPS};
 use group_tree::path::PathText;
 use mem_core::conditions::{Condition, PlaceTest};
 use mem_core::meeting::quantity;
@@ -90,7 +90,7 @@ fn show_pending(rows: &Rows) -> Reason
     requires unmet { no_page_pends (state_in rows.now) ≡ false }
     ensures { ShowsUnmet (state_in rows.now) kinds.NonePending result }
 {
-    for index in 0..64 {
+    for index in 0..MAX_GROUPS as u32 {
         let group = GroupId::of(index).unwrap();
         let count = rows.pending(group);
         if count != 0 {

@@ -43,7 +43,7 @@ fn pages_below<N: BootName>(
 ) -> u64
     requires { IsTrue (has_group machine.now.ledger.groups group) }
     ensures pages { result ≡ pages_below machine.now list only_dirty group }
-    ensures few { result < 2 ^ 49 }
+    ensures few { result < 2 ^ 53 }
 {
     let mut pages = 0;
     for row in machine.charges().tree().groups() {

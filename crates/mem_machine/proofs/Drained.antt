@@ -2,7 +2,8 @@
 use Rattle.std.proofs.Common.{◌≡◌, ℕ, ◌+◌, ◌-◌, ◌<◌, ◌≤◌, true, Option, Some, None, List, [], ◌∷◌, length, get_or, refl, sym, ap, ◌∙◌, subst, inl, inr, arith}
 use Rattle.std.specs.List.{fold}
 use Rattle.std.specs.Prelude.{slice_set}
-use Rattle.group_tree.specs.Groups.{has_group}
+use Rattle.group_tree.specs.declared.group.Group.{Group}
+use Rattle.group_tree.specs.Groups.{has_group, room_of}
 use Rattle.group_charge.specs.declared.note.Note.TheVariants.{Stock}
 use Rattle.group_charge.specs.{Ledger, pages_of, KnownNotes, noted}
 use Rattle.group_charge.proofs.CallerLemmas.{uncharge_pages}
@@ -16,7 +17,7 @@ use Rattle.boot_words.specs.{hide, KnownPasts, IsHeld, MakesStep, MayMake, cpu_p
 use Rattle.step_watch.specs.Watched.{KnownWatch, Watches}
 use Rattle.mem_machine.specs.declared.machine.Machine.TheInside.{Inside}
 use Rattle.mem_machine.specs.{AreBooked, AreOwners, IsSoundMachine, machine_of, Makes, StaysVisited, lock_holder, local_of, KnownMachine}
-use Rattle.mem_machine.specs.{IsConsistent, IsCpuOf, IsShownBy, frames_charged, left_by, pages_booked, stock_group, AreLocal, KnownRun, MayTake}
+use Rattle.mem_machine.specs.{FitsFrameState, IsConsistent, IsCpuOf, IsShownBy, frame_state_at, frames_charged, home_of, left_by, pages_booked, stock_group, AreLocal, KnownRun, MayTake}
 use Rattle.mem_machine.specs.{MayTakeAll, Records, after_made, drain_steps, Drains, DrainsNoted, uncharged}
 use Rattle.mem_machine.proofs.AtTable.{made_at}
 use Rattle.mem_machine.proofs.Behind.{FitsDrain, fits_drain}
@@ -156,9 +157,15 @@ module _ (t : KnownTable) (m : KnownMachine) (ok : IsConsistent t m) (q n : ℕ)
     pub drained_consistent : (l : Ledger) → l ≡ uncharged m.ledger o n → IsConsistent t (record m { ledger = l; run = run })
     drained_consistent l off = subst (λ (x : Ledger). IsConsistent t (record m { ledger = x; run = run })) (sym off) (record {
       choice = ok.choice;
-      sizes = record { frame_states = ok.sizes.frame_states; links = ok.sizes.links; lists = ok.sizes.lists; killed = ok.sizes.killed };
+      sizes = record {
+        frame_states = ok.sizes.frame_states;
+        links = ok.sizes.links;
+        lists = ok.sizes.lists ∙ ap room_of (sym (groups_stay m.ledger o n));
+        killed = ok.sizes.killed ∙ ap room_of (sym (groups_stay m.ledger o n));
+      };
       areas = ok.areas;
-      frame_states = ok.frame_states;
+      frame_states = λ f within. subst (λ (groups : List Group). FitsFrameState (room_of groups) (home_of m.links f) (frame_state_at m.frame_states f)) (sym (groups_stay m.ledger o n))
+          (ok.frame_states f within);
       units = ok.units;
       lists = ok.lists;
       balances = ok.balances;

@@ -1,13 +1,14 @@
 -- The lists of one group changed: its units were marked, moved or dirtied. Each frame is on a list of the same group as
 -- before, and the lists of all other groups stay. Serves all calls that change a list.
 use Rattle.std.proofs.Common.{◌≡◌, ◌≢◌, ℕ, ◌<◌, ◌==◌, ◌||◌, ◌⊎◌, Bool, true, false, Option, Some, None, List, [], ◌∷◌, ◌++◌, length, map, refl, sym, ap, ◌∙◌}
-use Rattle.std.proofs.Common.{subst, inl, inr, eq-eqb, cond, get_or, arith}
+use Rattle.group_tree.specs.Groups.{room_of}
+use Rattle.std.proofs.Common.{◌≤◌, subst, inl, inr, eq-eqb, cond, get_or}
 use Rattle.boot_words.specs.Tables.{KnownTable}
 use Rattle.mem_machine.specs.FrameStates.{frame_state_at}
 use Rattle.std.specs.Prelude.{is_some, option_map, slice_set}
 use Rattle.step_rules.specs.State.{one_if}
-use Rattle.std.proofs.lemmas.List.{get_or-set_other}
-use Rattle.std.proofs.lemmas.Bool.{cases_eq, ne_eqb, or_left, or_right}
+use Rattle.std.proofs.lemmas.List.{get_or-set_other, get_or_past}
+use Rattle.std.proofs.lemmas.Bool.{cases_eq, ne_eqb, or_left, or_right, cases_lt}
 use Rattle.std.proofs.lemmas.Option.{none-some}
 use Rattle.lru_lists.specs.declared.record.Link.{Link}
 use Rattle.lru_lists.specs.declared.record.Home.{Home}
@@ -20,7 +21,7 @@ use Rattle.lru_lists.specs.{home_in, queue_of, entries_of, entry_of, inactive_of
 use Rattle.lru_lists.specs.declared.lru.Touched.{Touched}
 use Rattle.lru_lists.specs.declared.lru.Touched.TheVariants as touch
 use Rattle.mem_machine.specs.declared.frame_state.FrameState.{FrameState}
-use Rattle.mem_machine.specs.Machines.{FitsFrameState, OthersStay, no_lists, group_lists, KnownMachine, IsConsistent, home_of}
+use Rattle.mem_machine.specs.Machines.{FitsFrameState, OthersStay, lists_at, no_lists, group_lists, KnownMachine, IsConsistent, home_of}
 
 cases_none : (o : Option LruList) → (o ≡ None) ⊎ (o ≢ None)
 cases_none None = inl refl

@@ -1,5 +1,7 @@
 -- The units of one list, as entries. Serves walks over a list, in the crates above too.
-use Rattle.std.proofs.Common.{◌≡◌, ℕ, ◌<◌, ◌==◌, ◌||◌, Bool, true, false, Some, List, [], ◌∷◌, ◌++◌, map, length, refl, sym, ap, ◌∙◌, inl, inr, arith, eq-eqb}
+use Rattle.std.proofs.Common.{◌≡◌, ℕ, ◌<◌, ◌==◌, ◌||◌, Bool, true, false, Option, Some, List, [], ◌∷◌, ◌++◌, map, length, refl, sym, ap, ◌∙◌, subst, inl, inr, arith, eq-eqb}
+use Rattle.mem_machine.proofs.OneGroup.{no_units}
+use Rattle.mem_machine.proofs.Listed.{none_beyond, place_here}
 use Rattle.std.proofs.lemmas.Bool.{cases_eq, cases_lt, ne_eqb, or_parts, false≢true}
 use Rattle.std.proofs.lemmas.Option.{none-some}
 use Rattle.std.proofs.lemmas.List.{get_or_past}
@@ -7,7 +9,7 @@ use Rattle.lru_lists.specs.declared.record.Link.{Link}
 use Rattle.lru_lists.specs.declared.record.Home.{Home}
 use Rattle.lru_lists.specs.declared.record.Entry.{Entry}
 use Rattle.lru_lists.specs.declared.record.LruList.{LruList}
-use Rattle.lru_lists.specs.{link_at, nowhere, is_among, HasNoRepeats, units_of, entries_without, entry_after, first_entry, entry_of, queue_of}
+use Rattle.lru_lists.specs.{link_at, list_at, nowhere, is_among, HasNoRepeats, units_of, entries_without, entry_after, first_entry, entry_of, queue_of}
 use Rattle.boot_words.specs.Tables.{KnownTable}
 use Rattle.mem_machine.specs.{KnownMachine, IsConsistent, home_of, lists_at, no_lists, entries_in}
 

@@ -1,5 +1,6 @@
 -- The two lists of one group are read, or change and nothing else. Serves `age`, `renew` and the walks.
 use Rattle.std.proofs.Common.{◌≡◌, ℕ, ◌<◌, ◌≤◌, ◌==◌, false, inl, inr, Option, Some, None, List, [], ◌∷◌, ◌++◌, length, get_or, refl, sym, ap, ◌∙◌, subst, arith}
+use Rattle.mem_machine.proofs.Dirties.{owner_bound}
 use Rattle.std.specs.Prelude.{slice_set, option_map}
 use Rattle.std.proofs.lemmas.Bool.{cases_lt, ne_eqb}
 use Rattle.std.proofs.lemmas.List.{get_or_default, get_or_past, get_or-set_same, length-set}
@@ -156,8 +157,8 @@ ages_group t m now same g lru new n changed ages = record {
 }
 
 -- a group that there is no room for has nothing to age
-pub ages_beyond : (t : KnownTable) (m now : KnownMachine) → m ≡ now → (g i : ℕ) → length m.lists ≤ i → i ≡ g → AgesGroup g now m × Makes t now [] m
-ages_beyond t m now same g i past is = subst (λ (x : KnownMachine × ℕ). AgesGroup x.1 x.0 m × Makes t x.0 [] m) (λ j. (same j, is j)) (
+pub ages_beyond : (t : KnownTable) (m now : KnownMachine) → m ≡ now → (g i : ℕ) → length m.lists ≤ i → i ≡ g → AgesGroup g now now × Makes t now [] now
+ages_beyond t m now same g i past is = subst (λ (x : KnownMachine × ℕ). AgesGroup x.1 x.0 x.0 × Makes t x.0 [] x.0) (λ j. (same j, is j)) (
   record {
     machine = refl;
     ages = subst (λ (l : Lru). Ages m.links l m.links l) (sym (get_or_past m.lists i no_lists past)) (record {
@@ -175,6 +176,14 @@ ages_beyond t m now same g i past is = subst (λ (x : KnownMachine × ℕ). Ages
 )
 
 -- ---- a unit of the group was renewed
+
+-- there is room for the group of a unit on a list
+pub renewed_there : (t : KnownTable) (m now : KnownMachine) → m ≡ now → IsConsistent t m → (f : ℕ) → f < t.frames → (g i : ℕ) → i ≡ g → (list : LruList)
+    → home_of now.links f ≡ Some (record { owner = g; list = list }) → i < length m.lists
+renewed_there t m now same ok f inside g i is list home =
+    let low = owner_bound t m ok f (record { owner = g; list = list }) inside (ap (λ (x : KnownMachine). home_of x.links f) same ∙ home) in
+    let sized = ok.sizes.lists in
+    omega (arith, low, sized, is)
 
 pub renews_unit : (t : KnownTable) (m now : KnownMachine) → m ≡ now → (g f i : ℕ) → i ≡ f → (lru new : Lru) (n : KnownMachine)
     → GroupChanged t now g lru new n

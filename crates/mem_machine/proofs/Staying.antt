@@ -1,6 +1,6 @@
 -- The sums and the owners stay through steps that book nothing, and what else they say of a group. Serves all calls under
 -- the lock.
-use Rattle.std.proofs.Common.{◌≡◌, ℕ, ◌+◌, ◌<◌, ◌^◌, false, true, Option, List, length, sym, ap, ◌∙◌, subst, inl, inr, arith}
+use Rattle.std.proofs.Common.{◌≡◌, ℕ, ◌+◌, ◌<◌, ◌^◌, false, true, Option, List, length, get_or, sym, ap, ◌∙◌, subst, inl, inr, arith}
 use Rattle.std.specs.List.{fold}
 use Rattle.std.proofs.lemmas.Bool.{cases_lt, false≢true}
 use Rattle.group_tree.specs.Groups.{has_group}
@@ -74,6 +74,15 @@ room_booked t m now same ok charges g n there fits h is =
     let root = usage-le-root m.ledger g charges in
     let all = ok.shown.charged g in
     omega (arith, own, root, all, few))
+
+-- the frames of a group are what is charged to it and isn't booked to its stocks
+pub frames_rest : {room : ℕ} (t : KnownTable) (m now : KnownMachine) → m ≡ now → IsConsistent t m → (sums : List ℕ) → AreBooked room t.cpus (left_by t m.run.past).parts sums
+    → (g : ℕ) → pages_of m.ledger g ≡ frames_charged now.frame_states g + get_or sums g 0
+frames_rest t m now same ok sums are g =
+    let all = ok.shown.charged g in
+    let sum = are.each g in
+    let here = ap (λ (x : KnownMachine). frames_charged x.frame_states g) same in
+    omega (arith, all, sum, here)
 
 -- a group that isn't there has none
 pub frames_none : (t : KnownTable) (m now : KnownMachine) → m ≡ now → IsConsistent t m → AreCharges m.ledger → (g : ℕ)

@@ -193,10 +193,10 @@ pub record AreSized (table : KnownTable) (machine : KnownMachine) : Type 0 where
   pub lists : length machine.lists ≡ room_of machine.ledger.groups
   pub killed : length machine.killed ≡ room_of machine.ledger.groups
 
--- The machine is consistent. Its sizes are those of the table and of the tree. The free areas are the maximal blocks of the free
--- frames. Each frame's record agrees with the lists. The charged frames make up units. All lists agree with the links.
--- The units freed are the last puts, freezes and killed fresh frames together, or the greatest count if that is less.
--- A reclaim begins with a pass of shares if and only if the boot chose that. All else is what the machine's past left.
+-- The machine is consistent. Its sizes are those of the table and of the tree. The free areas are the maximal blocks of
+-- the free frames. Each frame's record agrees with the lists. The charged frames make up units. All lists agree with the
+-- links. The units freed are the last puts, freezes and killed fresh frames together, or the greatest count if that is
+-- less. A reclaim begins with a pass of shares if and only if the boot chose that. All else is what the machine's past left.
 pub record IsConsistent (table : KnownTable) (machine : KnownMachine) : Type 0 where
   pub sizes : AreSized table machine
   pub areas : AreMaximalBlocks (free_of machine.frame_states) machine.blocks
@@ -254,7 +254,7 @@ OneByOne IsDone (frame ∷ others) before after = FirstThen (IsDone frame) (OneB
 abbrev pub IsCpuOf : KnownTable → ℕ → Type 0
 IsCpuOf table cpu = (1 ≤ cpu) × (cpu ≤ table.cpus)
 
--- for how many groups a boot makes room that asked for so many: at least the root, and at most the most
+-- the room of a boot that asked for so many groups: 1 at least, and `most_groups` at most
 abbrev pub boot_room : ℕ → ℕ
 boot_room groups = min groups most_groups - 1 + 1
 

@@ -7,8 +7,8 @@ use group_tree::group::GroupId;
 use step_rules::phase::ChargedUnit;
 use zone_blocks::order::Order;
 
-/// The record of one frame: what the machine uses it for. There is one for each frame, so it takes only 3 bytes: one
-/// each for the variant, the CPU or the group, and the order.
+/// The record of one frame: what the machine uses it for. There is one for each frame, and it takes 6 bytes: two for the
+/// group, one each for the variant and the order or the CPU, and two of padding.
 #[derive(Clone, Copy)]
 pub enum FrameState {
     /// In the zone's free areas.

@@ -53,9 +53,10 @@ fn uncount(clean: &mut Vec<u64>, is_dirty: bool, group: GroupId, order: Order)
     requires { is_dirty ≡ false → 2 ^ order ≤ slice_index_or clean.old.items group 0 }
     ensures { clean.new.items ≡ clean_left is_dirty group order clean.old.items }
 {
-    if !is_dirty {
-        clean[group.number() as usize] -= u64::from(order.frames());
+    if is_dirty {
+        return;
     }
+    clean[group.number() as usize] -= u64::from(order.frames());
 }
 
 /// Removes a kept unit from its list and, if it is clean, its pages from the group's clean ones. `head` is the unit's

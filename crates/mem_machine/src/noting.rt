@@ -9,7 +9,7 @@ use group_charge::note::Note;
 
 impl<N: BootName> Machine<N> {
     /// The notes since the last `forget_notes`, the oldest first: limits without room, what was tried there, which
-    /// units were reclaimed, what was protected, and who was killed. If there were more than 2,112, only the first 2,112
+    /// units were reclaimed, what was protected, and who was killed. If there were more than 4,992, only the first 4,992
     /// are kept. At most 1,024 of them are details: spans of reclaimed units, and what protected a group.
     pub fn notes(&self) -> &[Note]
         ensures { result.now ≡ self.now.notes.list }

@@ -82,7 +82,10 @@ fn frame_parts(alloc: Global, frames: u32) -> Result<(Buddy, Vec<FrameState>, Li
 
 // The tables with an entry for each of `room` group numbers: two empty lists, how many clean pages are on them, the
 // pages booked to the group's stocks, and the mark of a killed group.
-fn group_tables(alloc: Global, room: u32) -> Result<(Vec<Lru>, Vec<u64>, Vec<u32>, Vec<bool>), AllocError>
+fn group_tables(
+    alloc: Global,
+    room: u32,
+) -> Result<(Vec<Lru>, Vec<u64>, Vec<u32>, Vec<bool>), AllocError>
     requires { room ≤ most_groups }
     ensures lists { IfOk result (λ tables. AreEmpty tables.0.items room) }
     ensures clean { IfOk result (λ tables. tables.1.items ≡ replicate room 0) }

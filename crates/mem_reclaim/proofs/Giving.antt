@@ -3,7 +3,7 @@ use Rattle.std.proofs.Common.{◌≡◌, ℕ, zero, suc, ◌+◌, ◌-◌, ◌<�
 use Rattle.std.specs.Prelude.{filter, min, nat_lt, slice_index, slice_set}
 use Rattle.std.specs.List.{count_by, range_with_len}
 use Rattle.std.proofs.lemmas.Bool.{cases_eq, cases_lt, cond-false, cond-true, le-ltb, ne_eqb}
-use Rattle.std.proofs.lemmas.List.{append-nil, get_or_past, get_or-set_other, get_or-set_same, length-replicate, length-set}
+use Rattle.std.proofs.lemmas.List.{append-nil, get_or-set_other, get_or-set_same, length-replicate, length-set}
 use Rattle.std.proofs.lemmas.List.Sums.{sum_by-append}
 use Rattle.group_tree.specs.{AreGroups, in_subtree, most_groups, room_of}
 use Rattle.group_tree.proofs.CallerLemmas.{in_subtree-below}
@@ -230,4 +230,5 @@ count_once p g k (suc n) is from before = elim (cases_eq k g) [
 pub turns_leave_out_no_group : TurnsLeaveOutNoGroup
 unfolding subtree_of
 turns_leave_out_no_group groups target g facts inside =
-    count_once (in_subtree groups target) g 0 (room_of groups) inside (omega arith) (number_in_room groups g facts (in_subtree-below groups target g inside))
+    count_once (in_subtree groups target) g 0 (room_of groups) inside (omega arith)
+    (let low = number_in_room groups g facts (in_subtree-below groups target g inside) in omega (arith, low))

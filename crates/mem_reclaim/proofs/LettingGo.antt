@@ -217,6 +217,11 @@ first_is (e ∷ es) u is = (es, ap (λ (x : Entry). x ∷ es) (same e u (sym is)
     same : (a b : Entry) → Some a ≡ Some b → a ≡ b
     same a b e = cc
 
+-- there is one as long as units are left
+pub one_is_left : (entries : List Entry) (oldest : Option Entry) → oldest ≡ first_entry entries → oldest ≡ None → 1 ≤ length entries → ⊥
+one_is_left [] oldest first none some = omega (arith, some)
+one_is_left (e ∷ es) oldest first none some = none-some e (sym none ∙ first)
+
 pub oldest_is : (t : KnownTable) (g : ℕ) (list : LruList) (now : KnownMachine) → IsConsistent t now → (u : Entry)
     → (oldest : Option Entry) → oldest ≡ first_entry (entries_in now g list) → oldest ≡ Some u → Oldest t g list now u
 oldest_is t g list now ok u oldest first some =

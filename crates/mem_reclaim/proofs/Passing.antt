@@ -1,14 +1,14 @@
 -- Passes over a group and over the groups of a subtree. Serves all of `passes` and `reclaiming`.
 use Rattle.std.proofs.Common.{◌≡◌, ◌≢◌, ℕ, ◌+◌, ◌-◌, ◌<◌, ◌≤◌, ◌==◌, ◌&&◌, Bool, true, false, List, [], ◌∷◌, ◌++◌, cond}
 use Rattle.std.proofs.Common.{refl, sym, ap, ◌∙◌, subst, inl, inr, arith, nat_lt, suc}
-use Rattle.std.specs.Prelude.{Option, Some, None, filter, min, option_map}
+use Rattle.std.specs.Prelude.{IfSome, Option, Some, None, filter, min, option_map}
 use Rattle.std.specs.List.{range_with_len}
 use Rattle.std.proofs.lemmas.Bool.{cases_eq, cases_lt, cond-false, cond-true, eq-eqb, false≢true, ne_eqb, not-true}
 use Rattle.std.proofs.lemmas.Option.{none-some}
 use Rattle.boot_words.specs.Pasts.{IsHeld}
 use Rattle.group_tree.specs.declared.event.EventKey.TheVariants as event
 use Rattle.group_tree.specs.declared.group.Group.{Group}
-use Rattle.group_tree.specs.Groups.{AreGroups, in_subtree}
+use Rattle.group_tree.specs.Groups.{AreGroups, in_subtree, room_of}
 use Rattle.group_tree.proofs.CallerLemmas.{in_subtree-below}
 use Rattle.group_charge.specs.declared.settings.ReclaimSettings.{ReclaimSettings}
 use Rattle.group_charge.specs.Charges.{Ledger, are_protecting, current_of, with_noted}
@@ -334,6 +334,11 @@ pub shares_first : {A : Type 0} (f : A → ℕ → ℕ) (o : Option A) (first : 
 shares_first f None first given some = absurd (some refl)
 shares_first f (Some x) first given some = given (λ none. none-some x (sym none))
 
+-- shares of as many numbers have a place for each lesser one
+pub share_inside : {A : Type 0} (o : Option A) (room_in : A → ℕ) (room g : ℕ) → IfSome o (λ s. room_in s ≡ room) → g < room → IfSome o (λ s. g < room_in s)
+share_inside None room_in room g is low = tt
+share_inside (Some s) room_in room g is low = omega (arith, is, low)
+
 -- the groups of the subtree from this number on
 abbrev pub groups_from : List Group → (g k : ℕ) → List ℕ
 groups_from groups g k = filter (in_subtree groups g) (range_with_len k (room_of groups - k))
@@ -357,7 +362,8 @@ pub record PassSoFar (t : KnownTable) (shares : Option (ℕ → ℕ)) (pass : Pa
 pub pass_none : (t : KnownTable) (shares : Option (ℕ → ℕ)) (pass : Pass) (g want : ℕ) (m : KnownMachine) → PassSoFar t shares pass g want m 0 0 m
 unfolding subtree_of
 pass_none t shares pass g want m = record {
-  so_far = so_far_none t (TakesItsShare shares pass g) (groups_from m.ledger.groups g 0) want m;
+  so_far = subst (λ (l : List ℕ). SoFar t (TakesItsShare shares pass g) (subtree_of m.ledger.groups g) want m l 0 m)
+      (ap (λ (n : ℕ). filter (in_subtree m.ledger.groups g) (range_with_len 0 n)) (omega arith)) (so_far_none t (TakesItsShare shares pass g) (subtree_of m.ledger.groups g) want m);
   keeps = keeps_none t m;
   usage = omega arith;
   few = omega arith;
@@ -370,6 +376,11 @@ module _ (t : KnownTable) (shares : Option (ℕ → ℕ)) (pass : Pass) (g want 
   -- the same group in the tree as it is now
   as_first : (inside : Bool) (turn : ℕ) → turn ≡ k → in_subtree now.ledger.groups g turn ≡ inside → in_subtree m.ledger.groups g k ≡ inside
   as_first inside turn at is = (λ i. in_subtree (sym s.keeps.groups i) g (sym at i)) ∙ is
+
+  -- the group of the turn is there
+  pub turn_inside : AreGroups m.ledger.groups → (turn : ℕ) → in_subtree now.ledger.groups g turn ≡ true → turn < room_of m.ledger.groups
+  turn_inside facts turn is =
+      number_in_room m.ledger.groups turn facts (in_subtree-below m.ledger.groups g turn (ap (λ (l : List Group). in_subtree l g turn) (sym s.keeps.groups) ∙ is))
 
   pub pass_skips : (turn : ℕ) → turn ≡ k → k < room_of m.ledger.groups → in_subtree now.ledger.groups g turn ≡ false → PassSoFar t shares pass g want m (k + 1) freed now
   pass_skips turn at low away =

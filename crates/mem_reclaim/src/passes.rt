@@ -1,7 +1,7 @@
 //! The passes over the groups of a subtree, by ascending number.
 
-ghost use Rattle.std.specs.Prelude.{◌≡◌, ◌<◌, ◌+◌, ◌≢◌, ◌&&◌, true, false, None, nat_lt, option_map, IsTrue};
-ghost use Rattle.group_tree.specs.Groups.{has_group, in_subtree};
+ghost use Rattle.std.specs.Prelude.{◌≡◌, ◌<◌, ◌+◌, ◌≢◌, ◌&&◌, true, false, None, nat_lt, option_map, IfSome, IsTrue};
+ghost use Rattle.group_tree.specs.Groups.{has_group, in_subtree, room_of};
 ghost use Rattle.group_charge.specs.Charges.{current_of};
 ghost use Rattle.group_charge.specs.declared.note.Note.TheVariants.{Spared};
 ghost use Rattle.boot_words.specs.Pasts.{IsHeld};
@@ -254,6 +254,7 @@ fn take_turn<N: BootName>(
 
 // How many pages a turn of the group wants: all that are wanted, but no more than its share if there are shares.
 fn part_of(shares: Option<&Shares>, group: GroupId, want: u64) -> u64
+    requires { IfSome shares (λ s. group < s.now.room) }
     ensures { result ≡ part_of (option_map (λ s. shares_by s.now) shares.entry) group want }
 {
     match shares {
@@ -275,6 +276,7 @@ pub(crate) fn reclaim_pass<N: BootName>(
     requires there { IsTrue (has_group machine.old.ledger.groups target) }
     requires held { IsHeld N.table machine.old.run.past }
     requires shares { shares ≢ None → is_first pass ≡ true }
+    requires room { IfSome shares (λ s. s.now.room ≡ room_of machine.old.ledger.groups) }
     ensures passes { FreesBySteps N.table result machine.old machine.new
         (WhileWanted (TakesItsShare (option_map (λ s. shares_by s.now) shares.entry) pass target)
         (subtree_of machine.old.ledger.groups target) want) }

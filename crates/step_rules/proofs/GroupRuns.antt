@@ -96,9 +96,9 @@ pub group_run_is_legal : IsLegalRun small_zone group_comes_and_goes
 unfolding has_group group_at sum_to all_to in_subtree path_of names_of number_at parent_path is_name is_well_formed make_fault room_of has_child with_limit without_group limit_of
 group_run_is_legal =
     legal_each (at_boot small_zone) group_comes_and_goes (
-      allowed_both (at_boot small_zone) group_in_use group_goes
-      (search (rules, first_number, second_number, path_has_room, upper_is_over, front_block) depth 40)
-      (search (rules, first_number, second_number, path_has_room, upper_is_over, front_block) depth 40)
+    allowed_both (at_boot small_zone) group_in_use group_goes
+    (search (rules, first_number, second_number, path_has_room, upper_is_over, front_block) depth 40)
+    (search (rules, first_number, second_number, path_has_room, upper_is_over, front_block) depth 40)
     )
 
 not_group_5 : ◌≡◌ {A = Option ℕ} (Some 0) (Some 5) → ⊥

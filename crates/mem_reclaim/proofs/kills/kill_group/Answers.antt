@@ -1,4 +1,3 @@
-use Rattle.std.proofs.Common.{◌<◌, rules}
 use Rattle.mem_reclaim.proofs.LettingGo.{all_killed}
 use Rattle.mem_machine.specs.Steps.{drain_stocks_steps, kill_steps}
 use Rattle.mem_reclaim.proofs.Grown.{held_after}

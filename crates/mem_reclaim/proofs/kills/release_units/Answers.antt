@@ -1,13 +1,18 @@
-use Rattle.std.proofs.Common.{◌<◌, ◌≤◌, length, ap, sym, ◌∙◌, arith, rules}
+use Rattle.std.proofs.Common.{◌≤◌, length, ap, sym, ◌∙◌, arith}
 use Rattle.std.proofs.lemmas.Option.{none-some}
 use Rattle.boot_words.specs.Tables.{KnownTable}
 use Rattle.mem_machine.specs.{home_of, entries_in}
-use Rattle.mem_reclaim.proofs.LettingGo.{let_go_done, let_go_empty, let_go_first, let_go_more, oldest_is}
+use Rattle.mem_reclaim.proofs.LettingGo.{let_go_done, let_go_empty, let_go_first, let_go_more, oldest_is, one_is_left}
 use Rattle.mem_reclaim.proofs.Grown.{held_after}
 use Rattle.mem_reclaim.proofs.kills.release_units.Goals as goal
 
 pub loop-unit-init : goal.loop-unit-init
 loop-unit-init g c = let_go_first g.N.BootName.table c.args.group c.args.list c.args.machine.now
+
+pub unreachable-requires : goal.unreachable-requires
+unreachable-requires g c =
+    let left = c.loop-unit.invariant.left in
+    one_is_left _ _ c.oldest.ensures c.in_default.is (omega (arith, left, c.loop-unit-test.true, c.list_len-unit-end.ensures))
 
 pub unreachable-requires-in_default-frame : goal.unreachable-requires-in_default-frame
 unreachable-requires-in_default-frame g c =

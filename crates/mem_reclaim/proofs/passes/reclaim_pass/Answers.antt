@@ -2,7 +2,7 @@ use Rattle.std.proofs.Common.{◌≡◌, ◌≤◌, true, false, arith, rules, s
 use Rattle.group_tree.specs.Groups.{AreGroups, in_subtree, room_of}
 use Rattle.group_tree.proofs.CallerLemmas.{in_subtree-below}
 use Rattle.group_charge.specs.Charges.{Ledger}
-use Rattle.mem_reclaim.proofs.Passing.{all_tried, pass_none, pass_more, pass_enough, pass_done, pass_skips, shares_first}
+use Rattle.mem_reclaim.proofs.Passing.{all_tried, pass_none, pass_more, pass_enough, pass_done, pass_skips, share_inside, shares_first, turn_inside}
 use Rattle.mem_reclaim.proofs.Grown.{held_after}
 use Rattle.mem_reclaim.proofs.passes.reclaim_pass.Goals as goal
 
@@ -17,6 +17,12 @@ loop-number-preserved-then-not-is_in_subtree g c =
     let turn : c.in-Some.turn ≡ c.loop-number.number = search rules in
     let away : in_subtree c.loop-number.machine.ledger.groups c.args.target c.in-Some.turn ≡ false = cc in
     pass_skips _ _ _ _ _ _ _ _ _ c.loop-number.invariant c.in-Some.turn turn (omega (arith, c.loop-number-test.true, c.room-number-end.ensures.groups)) away
+
+pub part_of-part-requires : goal.part_of-part-requires
+part_of-part-requires g c =
+    let facts = subst (λ (l : Ledger). AreGroups l.groups) c.charges.ensures c.prove_charges.ensures.legal.groups in
+    let inside : in_subtree c.loop-number.machine.ledger.groups c.args.target c.in-Some.turn ≡ true = cc in
+    share_inside c.args.shares (λ s. s.now.room) _ _ c.requires.room (turn_inside _ _ _ _ _ _ _ _ _ c.loop-number.invariant facts c.in-Some.turn inside)
 
 pub take_turn-freed-requires-clause-inside : goal.take_turn-freed-requires-clause-inside
 take_turn-freed-requires-clause-inside g c = cc

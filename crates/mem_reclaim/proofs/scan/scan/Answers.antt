@@ -1,4 +1,4 @@
-use Rattle.std.proofs.Common.{◌<◌, ◌≤◌, sym, ap, ◌∙◌, arith, rules}
+use Rattle.std.proofs.Common.{◌≤◌, sym, ap, ◌∙◌, arith, rules}
 use Rattle.group_tree.proofs.CallerLemmas.{in_subtree-refl}
 use Rattle.lru_lists.specs.Lists.{entry_of}
 use Rattle.boot_words.specs.Tables.{KnownTable}

@@ -12,9 +12,6 @@ returns-in-CarriageReturn c = rw c.in-CarriageReturn.is (c.write_return.ensures 
 pub returns-in-NumberOutOfRange : goal.returns-in-NumberOutOfRange
 returns-in-NumberOutOfRange c = rw c.in-NumberOutOfRange.is (c.write_number.ensures c.args.sizes.now)
 
-pub returns-in-GroupOutOfRange : goal.returns-in-GroupOutOfRange
-returns-in-GroupOutOfRange c = rw c.in-GroupOutOfRange.is (c.write_group.ensures c.args.sizes.now)
-
 pub returns-in-UnprintableByte : goal.returns-in-UnprintableByte
 returns-in-UnprintableByte c = rw c.in-UnprintableByte.is (c.write_byte.ensures c.args.sizes.now)
 

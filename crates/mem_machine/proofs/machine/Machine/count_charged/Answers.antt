@@ -34,7 +34,7 @@ pub overflow_cast-result : goal.overflow_cast-result
 overflow_cast-result g c =
     let few = c.prove_sizes.ensures.frames in
     let counted = are_counted g.N.BootName.table _ _ c.self.view_is c.self.invariant.consistent c.prove_charges.ensures.legal in
-    let end : c.loop-number.number ≡ room_of c.args.self.now.ledger.groups = c.loop-number.auto.number-end ∙ c.room-number-end.ensures.groups in
+    let end : c.loop-number.number ≡ room_of c.args.self.now.ledger.groups = omega (arith, c.loop-number.auto.number-end, c.loop-number-test.false, c.room-number-end.ensures.groups) in
     let within = counted.within c.loop-number.number (omega arith) in
     let so_far = c.loop-number.invariant in
     omega (arith, few, within, so_far)
@@ -42,13 +42,13 @@ overflow_cast-result g c =
 pub returns-clause-charged : goal.returns-clause-charged
 returns-clause-charged g c =
     let counted = are_counted g.N.BootName.table _ _ c.self.view_is c.self.invariant.consistent c.prove_charges.ensures.legal in
-    let end : c.loop-number.number ≡ room_of c.args.self.now.ledger.groups = c.loop-number.auto.number-end ∙ c.room-number-end.ensures.groups in
+    let end : c.loop-number.number ≡ room_of c.args.self.now.ledger.groups = omega (arith, c.loop-number.auto.number-end, c.loop-number-test.false, c.room-number-end.ensures.groups) in
     c.loop-number.invariant ∙ ap (λ (k : ℕ). sum_to k (frames_charged c.args.self.now.frame_states)) end ∙ counted.all
 
 pub returns-clause-at_most : goal.returns-clause-at_most
 returns-clause-at_most g c =
     let counted = are_counted g.N.BootName.table _ _ c.self.view_is c.self.invariant.consistent c.prove_charges.ensures.legal in
-    let end : c.loop-number.number ≡ room_of c.args.self.now.ledger.groups = c.loop-number.auto.number-end ∙ c.room-number-end.ensures.groups in
+    let end : c.loop-number.number ≡ room_of c.args.self.now.ledger.groups = omega (arith, c.loop-number.auto.number-end, c.loop-number-test.false, c.room-number-end.ensures.groups) in
     let within = counted.within c.loop-number.number (omega arith) in
     let so_far = c.loop-number.invariant in
     omega (arith, within, so_far)

@@ -1,4 +1,4 @@
-use Rattle.std.proofs.Common.{◌<◌, rules, sym}
+use Rattle.std.proofs.Common.{sym}
 use Rattle.mem_machine.specs.Kept.{machine_of}
 use Rattle.mem_machine.proofs.Clean.{clean_after_free}
 use Rattle.mem_machine.proofs.Fresh.{collect_legal, drop_all, drop_charged, drop_in_use, dropped_notes, has_room, may_return, none_reported_here, sum_some, unit_inside}

@@ -1,4 +1,4 @@
-use Rattle.std.proofs.Common.{◌<◌, rules, ap, subst, sym, arith}
+use Rattle.std.proofs.Common.{ap, subst, sym, arith}
 use Rattle.lru_lists.specs.{owner_of}
 use Rattle.mem_machine.specs.{AreCleanCounts, machine_of}
 use Rattle.mem_machine.proofs.Clean.{clean_kept_here, clean_room}

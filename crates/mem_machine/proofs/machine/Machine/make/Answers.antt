@@ -1,4 +1,4 @@
-use Rattle.std.proofs.Common.{ℕ, ◌<◌, List, [], ◌∷◌, ◌∙◌, false, length, arith, ap, refl, rules, sym, subst}
+use Rattle.std.proofs.Common.{ℕ, List, [], ◌∷◌, false, arith, ap, refl, rules, sym, subst}
 use Rattle.std.specs.Prelude.{slice_set}
 use Rattle.std.proofs.lemmas.List.{length-set}
 use Rattle.group_tree.proofs.GroupLemmas.{can_make}
@@ -31,7 +31,7 @@ invariant_of-self-2 g c =
     c.prove_charges.ensures.legal c.in_ok-group.ensures.least _ c.in_ok-group.ensures.made _ (ap (λ (n : ℕ). slice_set c.self.inside.killed.items n false) value))
     c.in_ok-group.ensures.pages (length-set c.self.inside.killed.items c.number-number.result false) _ (subst (λ (path : List ℕ). Records g.N.BootName.table (machine_of c.self.inside).run (zone_makes (Make path) (Number c.in_ok-group.group) ∷ [])
     (record { past = c.make_step.new.past; watch = c.make_step.new.watch })) c.in-Some.ensures.1 (c.make_step.ensures.notes _ _ (search rules))) _ refl in
-    record { consistent = all.consistent; free = c.self.invariant.free; clean = subst (λ (room : ℕ). AreCleanCounts room _ _ _) (sym (length-set c.self.inside.killed.items c.number-number.result false)) c.self.invariant.clean; sums = all.sums _ c.self.invariant.sums; owners = all.owners _ c.self.invariant.owners }
+    record { consistent = all.consistent; free = c.self.invariant.free; clean = subst (λ (room : ℕ). AreCleanCounts room c.self.inside.frame_states.items c.self.inside.links c.self.inside.clean.items) (sym (length-set c.self.inside.killed.items c.number-number.result false)) c.self.invariant.clean; sums = all.sums _ c.self.invariant.sums; owners = all.owners _ c.self.invariant.owners }
 
 pub returns-clause-steps : goal.returns-clause-steps
 returns-clause-steps g c =

@@ -1,4 +1,4 @@
-use Rattle.std.proofs.Common.{ℕ, ◌<◌, ◌∙◌, IsTrue, true, length, arith, ap, refl, sym, subst, rules}
+use Rattle.std.proofs.Common.{ℕ, ◌∙◌, IsTrue, true, arith, ap, refl, sym, subst, rules}
 use Rattle.std.specs.Prelude.{slice_set}
 use Rattle.std.proofs.lemmas.List.{length-set}
 use Rattle.group_tree.specs.Groups.{has_group}
@@ -27,7 +27,7 @@ invariant_of-self g c =
     (kills g.N.BootName.table (machine_of c.self.inside) _ c.self.view_is c.self.invariant.consistent c.requires.held c.args.group c.requires.there inside c.requires.alive _
     c.note.ensures.only.groups c.note.ensures.only.counts c.note.ensures.only.peaks _ (ap (λ (n : ℕ). slice_set c.self.inside.killed.items n true) value))
     c.note.ensures.only.pages (length-set c.self.inside.killed.items c.number.result true) _ (c.make_step.ensures.notes _ _ (search rules)) _ refl in
-    record { consistent = all.consistent; free = c.self.invariant.free; clean = subst (λ (room : ℕ). AreCleanCounts room _ _ _) (sym (length-set c.self.inside.killed.items c.number.result true)) c.self.invariant.clean; sums = all.sums _ c.self.invariant.sums; owners = all.owners _ c.self.invariant.owners }
+    record { consistent = all.consistent; free = c.self.invariant.free; clean = subst (λ (room : ℕ). AreCleanCounts room c.self.inside.frame_states.items c.self.inside.links c.self.inside.clean.items) (sym (length-set c.self.inside.killed.items c.number.result true)) c.self.invariant.clean; sums = all.sums _ c.self.invariant.sums; owners = all.owners _ c.self.invariant.owners }
 
 pub returns-clause-steps : goal.returns-clause-steps
 returns-clause-steps g c =

@@ -1,5 +1,5 @@
-use Rattle.std.proofs.Common.{◌≡◌, ◌≤◌, ◌∙◌, Some, length, true, false, arith, rules, ap, sym}
-use Rattle.mem_machine.specs.{machine_of, KnownMachine, is_killed, stock_group}
+use Rattle.std.proofs.Common.{◌≡◌, ◌≤◌, ◌∙◌, Some, length, true, false, arith, rules, sym}
+use Rattle.mem_machine.specs.{machine_of, is_killed, stock_group}
 use Rattle.mem_machine.proofs.Settled.{number_here, owner_here, settles_kept, settles_dropped, some_owner, steps_of}
 use Rattle.mem_machine.proofs.machine.Machine.settle_one.Goals as goal
 

@@ -98,7 +98,6 @@ returns-in_default-take g c =
 
 -- ---- a block
 
-
 pub unreachable-requires : goal.unreachable-requires
 unreachable-requires g c =
     let past : g.N.BootName.table.frames ≤ c.in-Some.block.at = search rules in
