@@ -17,7 +17,7 @@ use Rattle.script_replay.specs.{locked_command_of, head_named, ArgumentsInRange,
 -- what the command's text names is in range
 said_in_range : (sizes : Config) (name : List ℕ) (arguments : Arguments) (text : List ℕ) → IsNameWith sizes name arguments text
     → ArgumentsInRange sizes.frames arguments
-said_in_range sizes name (Group group) text is = is.2.low
+said_in_range sizes name (Group group) text is = is.2.possible
 said_in_range sizes name (Frame frame) text is = is.2.in_zone
 said_in_range sizes name arguments text is = tt
 
