@@ -3,6 +3,7 @@ use Rattle.std.specs.Prelude.{◌≡◌, ℕ, ◌^◌, ◌<◌, Bool, List, [], 
 use Rattle.std.specs.HashMap.{HashMap, get_by}
 use Rattle.std.specs.Map.{lookup}
 use Rattle.std.specs.Str.Parse.{IsNumeral, digits_value}
+use Rattle.group_tree.specs.Bounds.{most_groups}
 use Rattle.zone_blocks.specs.declared.config.Config.{Config}
 use Rattle.script_lines.specs.Names.{code_of}
 use Rattle.script_lines.specs.declared.line.Command.{Command}
@@ -102,6 +103,7 @@ pub record IsFrameText (sizes : Config) (frame : ℕ) (text : List ℕ) : Type 0
 -- a number that a group of the zone can have; the group needn't exist
 pub record IsGroupText (sizes : Config) (group : ℕ) (text : List ℕ) : Type 0 where
   pub writes : WritesNumber text group
+  pub possible : group < most_groups
   pub low : group < sizes.choices.groups
 
 -- `PATH` alone

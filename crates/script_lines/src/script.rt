@@ -17,6 +17,7 @@ use crate::line::{Command, Line};
 use crate::number::{first_number, number};
 use crate::place::{near_place, path_end, place_by_one};
 use crate::verb::{ArgumentForm, Names, Verb, command_names, first_verb};
+use group_tree::group::GroupId;
 use std::alloc::{AllocFailed, Global};
 use zone_blocks::config::Config;
 
@@ -353,7 +354,7 @@ fn group_of(text: &[u8], sizes: &Config) -> Option<u32>
     ensures { MatchOption result ((group : ℕ) → ¬ IsGroupText sizes.now group text.now)
         (λ group. IsGroupText sizes.now group text.now) }
 {
-    let group = number(text)?;
+    let group = GroupId::of(number(text)?)?.number();
     if group < sizes.choices.groups {
         Some(group)
     } else {

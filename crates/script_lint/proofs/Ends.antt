@@ -237,11 +237,12 @@ arguments_end sizes (PathOrder path order) a rest is = elim (front_of a rest pat
 ]
 arguments_end sizes (Group group) a rest is =
     let more = number_more a rest group is.writes in
+    let possible = is.possible in
     let low = is.low in
     let le = more.1 in
     elim more.2 [
-      | inl bare ↦ (0, omega arith, (Group more.0, refl, record { writes = bare; low = omega arith }))
-      | inr with_0 ↦ (9, omega arith, (Group more.0, refl, record { writes = with_0; low = omega arith }))
+      | inl bare ↦ (0, omega arith, (Group more.0, refl, record { writes = bare; possible = omega arith; low = omega arith }))
+      | inr with_0 ↦ (9, omega arith, (Group more.0, refl, record { writes = with_0; possible = omega arith; low = omega arith }))
     ]
 arguments_end sizes (Frame frame) a rest is =
     let more = number_more a rest frame is.writes in
@@ -280,7 +281,7 @@ example_is sizes counts v form.PathOrder e =
     (PathOrder (47 ∷ []) 0, sym e, record { digits = 48 ∷ []; parts = refl; path_text = slash; writes = nought })
 example_is sizes counts v form.Group e =
     let root = counts.groups_low in
-    command_from sizes v (48 ∷ []) (Group 0, sym e, record { writes = nought; low = omega arith })
+    command_from sizes v (48 ∷ []) (Group 0, sym e, record { writes = nought; possible = omega arith; low = omega arith })
 example_is sizes counts v form.Frame e =
     let some = counts.frames_low in
     command_from sizes v (48 ∷ []) (Frame 0, sym e, record { writes = nought; in_zone = omega arith })

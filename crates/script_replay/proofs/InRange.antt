@@ -11,12 +11,13 @@ use Rattle.script_lines.specs.declared.line.FrameAct.TheVariants.{Owner}
 use Rattle.script_lines.specs.declared.line.Line.{Line}
 use Rattle.script_lines.specs.declared.line.Line.TheVariants.{Go, At}
 use Rattle.script_lines.specs.Script.{IsCommandText, IsLineText, IsScript, asking_texts, texts_of}
-use Rattle.script_lines.specs.Verb.{Arguments, Frame, IsNameWith, its_verb, name_of_verb, words_of_command}
+use Rattle.script_lines.specs.Verb.{Arguments, Frame, Group, IsNameWith, its_verb, name_of_verb, words_of_command}
 use Rattle.script_replay.specs.{locked_command_of, head_named, ArgumentsInRange, CommandInRange, LineInRange}
 
 -- what the command's text names is in range
 said_in_range : (sizes : Config) (name : List ℕ) (arguments : Arguments) (text : List ℕ) → IsNameWith sizes name arguments text
     → ArgumentsInRange sizes.frames arguments
+said_in_range sizes name (Group group) text is = is.2.possible
 said_in_range sizes name (Frame frame) text is = is.2.in_zone
 said_in_range sizes name arguments text is = tt
 

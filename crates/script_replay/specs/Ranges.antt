@@ -1,12 +1,14 @@
 -- What a line names is in range.
 use Rattle.std.specs.Prelude.{ℕ, ◌≤◌, ◌<◌}
-use Rattle.script_lines.specs.Verb.{Arguments, Frame, words_of_command}
+use Rattle.group_tree.specs.Bounds.{most_groups}
+use Rattle.script_lines.specs.Verb.{Arguments, Frame, Group, words_of_command}
 use Rattle.script_lines.specs.declared.line.Command.{Command}
 use Rattle.script_lines.specs.declared.line.Line.{Line}
 use Rattle.script_lines.specs.declared.line.Line.TheVariants.{Go, At}
 
--- a frame that is named has a number below `frames`; a group that is named by its number may be missing
+-- a frame that is named has a number below `frames`, and a group that is named has a possible number
 abbrev pub ArgumentsInRange : (frames : ℕ) → Arguments → Type 0
+ArgumentsInRange frames (Group group) = group < most_groups
 ArgumentsInRange frames (Frame frame) = frame < frames
 ArgumentsInRange frames other = Unit {0}
 
